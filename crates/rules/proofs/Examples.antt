@@ -1,0 +1,17 @@
+-- M1 to M13 hold, by computing.
+use mathlib.Core.Path.{refl}
+use Rattle.octets.specs.Splice.{splice}
+use Rattle.rules.specs.Numbers.{age}
+use Rattle.rules.specs.Layout.{fieldsOf, readingChecks}
+use Rattle.rules.specs.Records.{recordOctets}
+use Rattle.rules.specs.Places.{sameKey}
+use Rattle.rules.specs.Soundness.{openSound, freeSound, sound}
+use Rattle.rules.specs.Receiving.{lineOf, effectOf, segmentChecks, segment}
+use Rattle.rules.specs.Delivery.{delivery}
+use Rattle.rules.specs.Opening.{opening}
+use Rattle.rules.specs.Sending.{segmentOctets, sendingChecks, sending}
+use Rattle.rules.specs.Examples.{Hold}
+
+pub hold : Hold
+unfolding splice age fieldsOf readingChecks recordOctets sameKey openSound freeSound sound lineOf effectOf segmentChecks segment delivery opening segmentOctets sendingChecks sending
+hold = refl

@@ -1,0 +1,5 @@
+pub mod Examples
+pub mod Keys
+pub mod Records
+pub mod Places
+pub mod Numbers

@@ -1,0 +1,46 @@
+-- A record's octets are 32 and read back as the record.
+use Prim.Native.Nat.{ℕ, _<_, _^_}
+use mathlib.Core.Path.{_≡_, refl}
+use mathlib.Core.List.{List}
+use native.Mathlib.Omega.{arith}
+use lib.ListN.{length, take}
+use lib.Seq.{take-all}
+use Rattle.octets.proofs.Number.{number-back}
+use Rattle.rules.specs.Numbers.{addressMost}
+use Rattle.rules.specs.Records.{recordLength, recordOctets, recordFrom}
+use Rattle.rules.specs.declared.Record.{Record}
+
+-- what the types of a record's fields say: numbers of two octets, and an address of 20
+pub record Fits (r : Record) : Type 0 where
+  pub address : length (r .key .address) ≡ addressMost
+  pub association : r .key .association < 2 ^ 16
+  pub context : r .key .context .0 < 2 ^ 16
+  pub octets : r .octets < 2 ^ 16
+
+pub record-length : (r : Record) → length (r .key .address) ≡ addressMost → length (recordOctets r) ≡ recordLength
+unfolding recordOctets
+record-length r h = rw h
+
+-- a record from the parts that are more than an octet
+abbrev recordWith : Record → List ℕ → ℕ → ℕ → ℕ → Record
+recordWith r o a c n =
+    record {
+      key = record { address = o; association = a; context = record { 0 = c }; reference = r .key .reference; length = r .key .length };
+      octets = n;
+      kind = r .kind;
+      instruction = r .instruction;
+      cause = r .cause;
+      segments = r .segments;
+    }
+
+parts-equal : (r : Record) (o p : List ℕ) (a b c d n m : ℕ) → o ≡ p → a ≡ b → c ≡ d → n ≡ m → recordWith r o a c n ≡ recordWith r p b d m
+parts-equal r o p a b c d n m e1 e2 e3 e4 = rw (e1, e2, e3, e4)
+
+pub record-back : (r : Record) → Fits r → recordFrom (recordOctets r) ≡ r
+unfolding recordOctets recordFrom
+record-back r h =
+    parts-equal r _ _ _ _ _ _ _ _
+    (take-all addressMost (r .key .address) (omega arith))
+    (number-back 2 (r .key .association) (h .association))
+    (number-back 2 (r .key .context .0) (h .context))
+    (number-back 2 (r .octets) (h .octets))

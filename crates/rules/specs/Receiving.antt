@@ -1,0 +1,207 @@
+-- Section 'Receiving'.
+use Prim.Native.Nat.{ℕ, _+_}
+use mathlib.Core.Bool.{Bool, true, false, not, _&&_}
+use mathlib.Core.List.{List, [], _∷_, _++_}
+use lib.Dec.{eqb, leb, ltb}
+use lib.ListN.{length, take, drop}
+use Rattle.octets.specs.Splice.{splice}
+use Rattle.rules.specs.General.{if_then_else_}
+use Rattle.rules.specs.Numbers.{dataMost, storeLeast, placeStart}
+use Rattle.rules.specs.Refusals.{Check, _when_, judged}
+use Rattle.rules.specs.Layout.{fieldsOf, readingChecks}
+use Rattle.rules.specs.Records.{delivered, lost, recordLength, zeroFilled, recordsOctets}
+use Rattle.rules.specs.Places.{freePlace, placeOf, lowestFree, isAt, numberOf, placeAt, putPlace}
+use Rattle.rules.specs.Soundness.{sound}
+use Rattle.rules.specs.declared.Key.{Key}
+use Rattle.rules.specs.declared.Place.{Place}
+use Rattle.rules.specs.declared.Table.{Table}
+use Rattle.rules.specs.declared.Fields.{Fields}
+use Rattle.rules.specs.declared.Record.{Record}
+use Rattle.rules.specs.declared.Found.{Found}
+use Rattle.rules.specs.declared.Found.the-variants.{At}
+use Rattle.rules.specs.declared.Part.the-variants.{OfParameter, OfStore}
+use Rattle.rules.specs.declared.Line.{Line}
+use Rattle.rules.specs.declared.Line.the-variants.{Unsegmented, Broken, Restart, Start, Final, Next}
+use Rattle.rules.specs.declared.Decision.{Decision}
+use Rattle.rules.specs.declared.Decision.the-variants.{Refused, Saved, Delivered, Lost}
+use Rattle.rules.specs.declared.Received.{Received}
+
+-- a sequence's key is association, context, originating address (length and octets) and reference
+abbrev pub keyOf : ℕ → List ℕ → Fields → Key
+keyOf association s f =
+    record {
+      address = zeroFilled (take (f .length) (drop (f .origin) s));
+      association = association;
+      context = f .context;
+      reference = f .reference;
+      length = f .length;
+    }
+
+-- application information is the tail of the parameter
+abbrev pub informationOf : List ℕ → Fields → List ℕ
+informationOf s f = drop (f .information) s
+
+-- the first line that applies, by whether the key is open, the remaining and the octets of its sequence so far, and the segment's fields and length
+unfoldable pub lineOf : Bool → ℕ → ℕ → Fields → ℕ → Line
+lineOf isOpen before saved f n =
+    if f .new && eqb (f .remaining .0) 0 then Unsegmented else
+    if ltb 9 (f .remaining .0) then Broken 4 else
+    if f .new && isOpen then Restart else
+    if f .new then Start else
+    if not isOpen then Broken 1 else
+    if not (eqb (f .remaining .0 + 1) before) then Broken 2 else
+    if ltb dataMost (saved + n) then Broken 5 else
+    if eqb (f .remaining .0) 0 then Final else Next
+
+-- the kind and the cause of the record that ends a sequence so; where none is made they are 0
+abbrev pub recordKind : Decision → ℕ
+recordKind Refused = 0
+recordKind (Saved p) = 0
+recordKind (Delivered part) = delivered
+recordKind (Lost cause p) = lost
+
+abbrev pub recordCause : Decision → ℕ
+recordCause Refused = 0
+recordCause (Saved p) = 0
+recordCause (Delivered part) = 0
+recordCause (Lost cause p) = cause
+
+abbrev pub recordOf : Decision → Key → ℕ → ℕ → ℕ → Record
+recordOf d key instruction segments octets =
+    record { key = key; octets = octets; kind = recordKind d; instruction = instruction; cause = recordCause d; segments = segments }
+
+-- an open place
+abbrev pub openPlace : Key → ℕ → Fields → ℕ → ℕ → ℕ → Place
+openPlace key instruction f segments octets start =
+    record {
+      key = key;
+      octets = octets;
+      start = start;
+      mark = 1;
+      instruction = instruction;
+      remaining = f .remaining;
+      segments = segments;
+    }
+
+-- only a first segment sets the start
+abbrev pub begun : Table → Key → Fields → ℕ → Place
+begun t key f n = openPlace key (f .instruction) f 1 n (t .clock)
+
+abbrev pub longer : Place → Key → Fields → ℕ → Place
+longer p key f n = openPlace key (p .instruction) f (p .segments + 1) (p .octets + n) (p .start)
+
+-- octets written to a place's stretch of the store, from index `at` of it on
+abbrev pub saveAt : List ℕ → ℕ → ℕ → List ℕ → List ℕ
+saveAt store place at octets = splice store (placeStart place + at) octets
+
+-- what a segment does: its decision and its record, if any; the places and the store after it
+pub record Effect : Type 0 where
+  pub decision : Decision
+  pub records : List Record
+  pub places : List Place
+  pub store : List ℕ
+
+-- the segment's key is at `place`, with p there; `room` is where a new sequence goes
+unfoldable pub effectOf : Line → Table → List ℕ → Key → Fields → List ℕ → Found → Place → Found → Effect
+effectOf Unsegmented t store key f octets place p room =
+    let d : Decision = Delivered (OfParameter (f .information) (length octets)) in
+    record { decision = d; records = recordOf d key (f .instruction) 1 (length octets) ∷ []; places = t .places; store = store }
+effectOf (Broken cause) t store key f octets place p room =
+    let d : Decision = Lost cause place in
+    let instruction : ℕ = if isAt place then p .instruction else f .instruction in
+    record {
+      decision = d;
+      records = recordOf d key instruction (p .segments + 1) (p .octets + length octets) ∷ [];
+      places = putPlace (t .places) place freePlace;
+      store = store;
+    }
+effectOf Restart t store key f octets place p room =
+    let d : Decision = Lost 3 place in
+    record {
+      decision = d;
+      records = recordOf d key (p .instruction) (p .segments) (p .octets) ∷ [];
+      places = putPlace (t .places) place (begun t key f (length octets));
+      store = saveAt store (numberOf place) 0 octets;
+    }
+effectOf Start t store key f octets place p room =
+    record {
+      decision = Saved (numberOf room);
+      records = [];
+      places = putPlace (t .places) room (begun t key f (length octets));
+      store = saveAt store (numberOf room) 0 octets;
+    }
+effectOf Final t store key f octets place p room =
+    let d : Decision = Delivered (OfStore (numberOf place) (p .octets + length octets)) in
+    record {
+      decision = d;
+      records = recordOf d key (p .instruction) (p .segments + 1) (p .octets + length octets) ∷ [];
+      places = putPlace (t .places) place freePlace;
+      store = saveAt store (numberOf place) (p .octets) octets;
+    }
+effectOf Next t store key f octets place p room =
+    record {
+      decision = Saved (numberOf place);
+      records = [];
+      places = putPlace (t .places) place (longer p key f (length octets));
+      store = saveAt store (numberOf place) (p .octets) octets;
+    }
+
+abbrev pub isStart : Line → Bool
+isStart Unsegmented = false
+isStart (Broken cause) = false
+isStart Restart = false
+isStart Start = true
+isStart Final = false
+isStart Next = false
+
+abbrev pub withPlaces : Table → List Place → Table
+withPlaces t ps = record { places = ps; registry = t .registry; timer = t .timer; clock = t .clock }
+
+-- the line of a segment at a table
+abbrev pub lineAt : Table → Key → Fields → ℕ → Line
+lineAt t key f n =
+    let place : Found = placeOf key (t .places) in
+    let p : Place = placeAt (t .places) place in
+    lineOf (isAt place) (p .remaining .0) (p .octets) f n
+
+-- Segment: 1, 2, 3, 4, then 5 to 9 by the octets, then 10: line 3 applies and no place is free
+unfoldable pub segmentChecks : Table → List ℕ → List ℕ → ℕ → List ℕ → List Check
+segmentChecks t store report association s =
+    let f : Fields = fieldsOf (t .registry) s in
+    let line : Line = lineAt t (keyOf association s f) f (length (informationOf s f)) in
+    (1 when not (sound t) ∷
+    2 when ltb (length store) storeLeast ∷
+    3 when ltb (length report) recordLength ∷ [])
+    ++ readingChecks (t .registry) s
+    ++ (10 when (isStart line && not (isAt (lowestFree (t .places)))) ∷ [])
+
+-- what a call leaves: its answer, the store and the report area
+pub record Reception : Type 0 where
+  pub answer : Received
+  pub store : List ℕ
+  pub report : List ℕ
+
+-- records go to the front of the lent report area; the rest of it stays
+abbrev pub receptionOf : Table → List ℕ → Effect → Reception
+receptionOf t report e =
+    record {
+      answer = record { table = withPlaces t (e .places); decision = e .decision; refusal = 0; records = length (e .records) };
+      store = e .store;
+      report = splice report 0 (recordsOctets (e .records));
+    }
+
+abbrev pub receivedAt : Table → List ℕ → List ℕ → ℕ → List ℕ → Reception
+receivedAt t store report association s =
+    let f : Fields = fieldsOf (t .registry) s in
+    let key : Key = keyOf association s f in
+    let octets : List ℕ = informationOf s f in
+    let place : Found = placeOf key (t .places) in
+    receptionOf t report
+    (effectOf (lineAt t key f (length octets)) t store key f octets place (placeAt (t .places) place) (lowestFree (t .places)))
+
+-- a refusal returns its number, the table as it came, zero records, and no lent octet is altered
+unfoldable pub segment : Table → List ℕ → List ℕ → ℕ → List ℕ → Reception
+segment t store report association s =
+    judged (segmentChecks t store report association s)
+    (λ n. record { answer = record { table = t; decision = Refused; refusal = n; records = 0 }; store = store; report = report })
+    (receivedAt t store report association s)

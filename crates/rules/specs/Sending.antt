@@ -1,0 +1,100 @@
+-- Section 'Sending'. o and d are the originating and the destination address.
+use Prim.Native.Nat.{ℕ, zero, suc, _+_, _-_, _*_, _/_, _%_}
+use mathlib.Core.Bool.{Bool, not, _&&_, _||_}
+use mathlib.Core.List.{List, [], _∷_, _++_}
+use lib.Dec.{eqb, leb, ltb}
+use lib.ListN.{length, take, drop}
+use Rattle.octets.specs.Splice.{splice}
+use Rattle.rules.specs.General.{if_then_else_}
+use Rattle.rules.specs.Numbers.{dataMost, segmentsMost, parameterMost, addressMost, referenceMost, instructionMost}
+use Rattle.rules.specs.Refusals.{Check, _when_, judged}
+use Rattle.rules.specs.Registry.{kindOf}
+use Rattle.rules.specs.Layout.{hasAddresses}
+use Rattle.rules.specs.Soundness.{sound}
+use Rattle.rules.specs.declared.Table.{Table}
+use Rattle.rules.specs.declared.Request.{Request}
+use Rattle.rules.specs.declared.Sent.{Sent}
+
+-- we write the shortest form of the context
+abbrev pub contextOctets : ℕ → List ℕ
+contextOctets x = if ltb x 128 then (128 + x) ∷ [] else x % 128 ∷ (128 + x / 128) ∷ []
+
+-- octets 3 and 3a; an unsegmented parameter is new with none remaining, and has no octet 3a
+abbrev pub sequenceOctets : Bool → Bool → ℕ → ℕ → List ℕ
+sequenceOctets segmented new remaining reference =
+    if segmented then (if new then 64 + remaining else remaining) ∷ (128 + reference) ∷ [] else 192 ∷ []
+
+abbrev pub addressesOctets : ℕ → List ℕ → List ℕ → List ℕ
+addressesOctets kind o d = if hasAddresses kind then (length o ∷ o) ++ (length d ∷ d) else []
+
+-- h, the header without octet 3a
+abbrev pub headerLength : ℕ → ℕ → List ℕ → List ℕ → ℕ
+headerLength kind x o d = length (contextOctets x) + 2 + length (addressesOctets kind o d)
+
+-- segmented unless h + n is at most R1
+abbrev pub isSegmented : ℕ → Request → ℕ → Bool
+isSegmented h q n = not (leb (h + n) (q .room1))
+
+-- the first carries R1 - h - 1 octets, each later one R - h - 1
+abbrev pub firstCarries : ℕ → Request → ℕ
+firstCarries h q = q .room1 - h - 1
+
+abbrev pub laterCarries : ℕ → Request → ℕ
+laterCarries h q = q .room - h - 1
+
+-- the count is the least that holds n
+abbrev pub countOf : ℕ → Request → ℕ → ℕ
+countOf h q n =
+    if isSegmented h q n then 1 + (n - firstCarries h q + (laterCarries h q - 1)) / laterCarries h q else 1
+
+-- the stretch of the data that segment k carries; the last what is left
+abbrev pub stretchOf : ℕ → ℕ → List ℕ → ℕ → List ℕ
+stretchOf a b whole zero = take a whole
+stretchOf a b whole (suc k) = take b (drop (a + k * b) whole)
+
+-- segment k has remaining equal to the count less 1 less k, and the indicator new only for k = 0; every segment repeats context, instruction, addresses and,
+-- where segmented, the reference
+unfoldable pub segmentOctets : ℕ → Request → List ℕ → List ℕ → List ℕ → List ℕ
+segmentOctets kind q o d whole =
+    let h : ℕ = headerLength kind (q .context .0) o d in
+    let segmented : Bool = isSegmented h q (length whole) in
+    contextOctets (q .context .0)
+    ++ ((128 + q .instruction) ∷ [])
+    ++ sequenceOctets segmented (eqb (q .number) 0) (countOf h q (length whole) - 1 - q .number) (q .reference .0)
+    ++ addressesOctets kind o d
+    ++ (if segmented then stretchOf (firstCarries h q) (laterCarries h q) whole (q .number) else whole)
+
+-- Sending: 1, 8, 14, 9, 15, 17, 16, 18, 19, 20
+unfoldable pub sendingChecks : Table → Request → List ℕ → List ℕ → List ℕ → List ℕ → List Check
+sendingChecks t q o d whole area =
+    let kind : ℕ = kindOf (t .registry) (q .context .0) in
+    let h : ℕ = headerLength kind (q .context .0) o d in
+    let count : ℕ = countOf h q (length whole) in
+    1 when not (sound t) ∷
+    8 when eqb kind 0 ∷
+    14 when ltb dataMost (length whole) ∷
+    9 when (ltb addressMost (length o) || ltb addressMost (length d)) ∷
+    15 when (eqb kind 1 && ltb 0 (length o + length d)) ∷
+    17 when ltb instructionMost (q .instruction) ∷
+    16 when ltb referenceMost (q .reference .0) ∷
+    18 when (ltb parameterMost (q .room1) || ltb parameterMost (q .room)
+    || (isSegmented h q (length whole) && (ltb (q .room1) (h + 1) || ltb (q .room) (h + 2) || ltb segmentsMost count))) ∷
+    19 when leb count (q .number) ∷
+    20 when ltb (length area) (length (segmentOctets kind q o d whole)) ∷ []
+
+-- what a call leaves: its answer and the lent area
+pub record Sending : Type 0 where
+  pub answer : Sent
+  pub area : List ℕ
+
+-- the result is that segment's octets at the front of the lent area, with the count of segments; the rest stays
+unfoldable pub sending : Table → Request → List ℕ → List ℕ → List ℕ → List ℕ → Sending
+sending t q o d whole area =
+    let kind : ℕ = kindOf (t .registry) (q .context .0) in
+    let octets : List ℕ = segmentOctets kind q o d whole in
+    judged (sendingChecks t q o d whole area)
+    (λ n. record { answer = record { refusal = n; count = 0; length = 0 }; area = area })
+    (record {
+      answer = record { refusal = 0; count = countOf (headerLength kind (q .context .0) o d) q (length whole); length = length octets };
+      area = splice area 0 octets;
+    })

@@ -1,0 +1,65 @@
+-- Section 'Refusal numbers', the paragraph 'Sound means'.
+use Prim.Native.Nat.{ℕ, _+_}
+use mathlib.Core.Bool.{Bool, not, _&&_, _||_}
+use mathlib.Core.List.{List}
+use lib.Dec.{eqb, leb, ltb}
+use lib.ListN.{drop}
+use Rattle.rules.specs.General.{every, everyTwo}
+use Rattle.rules.specs.Numbers.{timerInRange, referenceMost, instructionMost, segmentsMost, dataMost, addressMost, age}
+use Rattle.rules.specs.Registry.{kindOf, registrySound}
+use Rattle.rules.specs.Places.{sameKey, isOpen, isFree}
+use Rattle.rules.specs.declared.Place.{Place}
+use Rattle.rules.specs.declared.Table.{Table}
+
+abbrev pub isZero : ℕ → Bool
+isZero x = eqb x 0
+
+-- address to 20, zero filled and empty for 1998
+abbrev pub addressSound : ℕ → Place → Bool
+addressSound kind p =
+    leb (p .key .length) addressMost
+    && every isZero (drop (p .key .length) (p .key .address))
+    && (not (eqb kind 1) || isZero (p .key .length))
+
+-- each open place has a registered context, reference to 127, instruction to 3, remaining 1 to 9, at least one segment, segments plus remaining at
+-- most 10, octets to 2,048, address as above, age below T
+unfoldable pub openSound : Table → Place → Bool
+openSound t p =
+    not (eqb (kindOf (t .registry) (p .key .context .0)) 0)
+    && leb (p .key .reference .0) referenceMost
+    && leb (p .instruction) instructionMost
+    && leb 1 (p .remaining .0)
+    && leb (p .remaining .0) 9
+    && leb 1 (p .segments)
+    && leb (p .segments + p .remaining .0) segmentsMost
+    && leb (p .octets) dataMost
+    && addressSound (kindOf (t .registry) (p .key .context .0)) p
+    && ltb (age (t .clock) (p .start)) (t .timer)
+
+-- free places are all zero
+unfoldable pub freeSound : Place → Bool
+freeSound p =
+    isZero (p .key .association)
+    && isZero (p .key .context .0)
+    && isZero (p .key .reference .0)
+    && isZero (p .key .length)
+    && isZero (p .octets)
+    && isZero (p .start)
+    && isZero (p .instruction)
+    && isZero (p .remaining .0)
+    && isZero (p .segments)
+    && every isZero (p .key .address)
+
+abbrev pub placeSound : Table → Place → Bool
+placeSound t p = (isOpen p && openSound t p) || (isFree p && freeSound p)
+
+-- no two open places share a key
+abbrev pub placesApart : Place → Place → Bool
+placesApart p q = not (isOpen p && isOpen q && sameKey (p .key) (q .key))
+
+unfoldable pub sound : Table → Bool
+sound t =
+    timerInRange (t .timer)
+    && registrySound (t .registry)
+    && every (placeSound t) (t .places)
+    && everyTwo placesApart (t .places)

@@ -1,0 +1,137 @@
+// The types of document 01. No code: what the calls do with them is in specs/, one file for each section of the paper.
+
+// Segments remaining, local reference and context are separate numbers, and none stands for another.
+#[repr(C)]
+pub struct Remaining(pub u8);
+
+#[repr(C)]
+pub struct Reference(pub u8);
+
+#[repr(C)]
+pub struct Context(pub u16);
+
+// What names a sequence. The originating address is its length and its octets, zero filled.
+#[repr(C)]
+pub struct Key {
+    pub address: [u8; 20],
+    pub association: u16,
+    pub context: Context,
+    pub reference: Reference,
+    pub length: u8,
+}
+
+// One sequence. mark is 1 where it is open; a free place is all zero. start is the time of the first segment.
+#[repr(C)]
+pub struct Place {
+    pub key: Key,
+    pub octets: u16,
+    pub start: u32,
+    pub mark: u8,
+    pub instruction: u8,
+    pub remaining: Remaining,
+    pub segments: u8,
+}
+
+// A registered context and its kind, 1 (of 1998) or 2 (of 2000); an unused entry is all zero.
+#[repr(C)]
+pub struct Entry {
+    pub context: Context,
+    pub kind: u8,
+}
+
+// All that is kept between calls, beside the lent store. Any bits are a value of it: no bool, no enum.
+#[repr(C)]
+pub struct Table {
+    pub places: [Place; 16],
+    pub registry: [Entry; 8],
+    pub timer: u32,
+    pub clock: u32,
+}
+
+// What is made of a delivery (kind 16) or a loss (kind 17). Reference 255 is an unsegmented parameter.
+pub struct Record {
+    pub key: Key,
+    pub octets: u16,
+    pub kind: u8,
+    pub instruction: u8,
+    pub cause: u8,
+    pub segments: u8,
+}
+
+// The fields of a parameter. The originating address and the information stay where they are in it.
+pub struct Fields {
+    pub context: Context,
+    pub kind: u8,
+    pub instruction: u8,
+    pub new: bool,
+    pub remaining: Remaining,
+    pub reference: Reference,
+    pub origin: usize,
+    pub length: usize,
+    pub information: usize,
+}
+
+// Which place, if any.
+pub enum Found {
+    At(usize),
+    Nothing,
+}
+
+// Where delivered octets are: from start on in the parameter, or from the start of a place's stretch of the store.
+pub enum Part {
+    OfParameter { start: usize, length: usize },
+    OfStore { place: usize, length: usize },
+}
+
+// The first line that applies to a segment.
+pub enum Line {
+    Unsegmented,
+    Broken(u8),
+    Restart,
+    Start,
+    Final,
+    Next,
+}
+
+// What became of a segment.
+pub enum Decision {
+    Refused,
+    Saved(usize),
+    Delivered(Part),
+    Lost(u8, Found),
+}
+
+// The answers of the calls. A refusal of 0 is none.
+pub struct Received {
+    pub table: Table,
+    pub decision: Decision,
+    pub refusal: u8,
+    pub records: u8,
+}
+
+pub struct Swept {
+    pub table: Table,
+    pub refusal: u8,
+    pub records: u8,
+}
+
+pub struct Opened {
+    pub table: Table,
+    pub refusal: u8,
+}
+
+pub struct Sent {
+    pub refusal: u8,
+    pub count: u8,
+    pub length: u8,
+}
+
+// What sending is asked for, beside addresses and data.
+pub struct Request {
+    pub context: Context,
+    pub instruction: u8,
+    pub reference: Reference,
+    pub room1: usize,
+    pub room: usize,
+    pub number: usize,
+}
