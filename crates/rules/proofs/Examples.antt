@@ -2,7 +2,7 @@
 use mathlib.Core.Path.{refl}
 use Rattle.octets.specs.Splice.{splice}
 use Rattle.rules.specs.Numbers.{age}
-use Rattle.rules.specs.Layout.{fieldsOf, readingChecks}
+use Rattle.rules.specs.Layout.{fieldsOf, readingChecks, parameterOctets}
 use Rattle.rules.specs.Records.{recordOctets}
 use Rattle.rules.specs.Places.{sameKey}
 use Rattle.rules.specs.Soundness.{openSound, freeSound, sound}
@@ -13,5 +13,5 @@ use Rattle.rules.specs.Sending.{segmentOctets, sendingChecks, sending}
 use Rattle.rules.specs.Examples.{Hold}
 
 pub hold : Hold
-unfolding splice age fieldsOf readingChecks recordOctets sameKey openSound freeSound sound lineOf effectOf segmentChecks segment delivery opening segmentOctets sendingChecks sending
+unfolding splice age fieldsOf readingChecks recordOctets sameKey openSound freeSound sound lineOf effectOf segmentChecks segment delivery opening parameterOctets segmentOctets sendingChecks sending
 hold = refl

@@ -1,4 +1,5 @@
 pub mod Examples
+pub mod Refusals
 pub mod Keys
 pub mod Records
 pub mod Places

@@ -1,5 +1,5 @@
--- Section 'Layout of a segment'. s is a parameter's octets; a position counts from 0.
-use Prim.Native.Nat.{ℕ, _+_, _*_, _%_}
+-- Section 'Layout of a segment'. s is a parameter's octets, x one of them; a position counts from 0.
+use Prim.Native.Nat.{ℕ, _+_, _*_, _/_, _%_}
 use mathlib.Core.Bool.{Bool, not, _&&_, Bool·beq}
 use mathlib.Core.List.{List, [], _∷_, _++_}
 use lib.Dec.{eqb, leb, ltb}
@@ -9,6 +9,7 @@ use Rattle.rules.specs.Numbers.{parameterMost, addressMost}
 use Rattle.rules.specs.Refusals.{Check, _when_}
 use Rattle.rules.specs.Registry.{kindOf}
 use Rattle.rules.specs.declared.Entry.{Entry}
+use Rattle.rules.specs.declared.Heading.{Heading}
 use Rattle.rules.specs.declared.Fields.{Fields}
 
 abbrev pub octet : List ℕ → ℕ → ℕ
@@ -29,62 +30,71 @@ contextOf s = if has1a s then octet s 0 % 128 + 128 * (octet s 1 % 128) else oct
 abbrev pub at2 : List ℕ → ℕ
 at2 s = if has1a s then 2 else 1
 
-abbrev pub instructionOf : List ℕ → ℕ
-instructionOf s = octet s (at2 s) % 4
+abbrev pub instructionOf : ℕ → ℕ
+instructionOf x = x % 4
 
 -- octet 3: bit 7 sequence indicator, 1 new; bits 6 to 1 segments remaining
 abbrev pub at3 : List ℕ → ℕ
 at3 s = at2 s + 1
 
-abbrev pub isNew : List ℕ → Bool
-isNew s = leb 64 (octet s (at3 s) % 128)
+abbrev pub isNew : ℕ → Bool
+isNew x = leb 64 (x % 128)
 
-abbrev pub remainingOf : List ℕ → ℕ
-remainingOf s = octet s (at3 s) % 64
+abbrev pub remainingOf : ℕ → ℕ
+remainingOf x = x % 64
 
--- octet 3a, only if octet 3 has extension 0: local reference; the house's 255 where it is absent
-abbrev pub has3a : List ℕ → Bool
-has3a s = not (isLast (octet s (at3 s)))
+-- the indicator is 1 and remaining is 0
+abbrev pub isAlone : Bool → ℕ → Bool
+isAlone new remaining = new && eqb remaining 0
 
-abbrev pub referenceOf : List ℕ → ℕ
-referenceOf s = if has3a s then octet s (at3 s + 1) % 128 else 255
+-- octet 3a, only if octet 3, at a position, has extension 0: local reference; 255 means an unsegmented parameter
+abbrev pub has3a : ℕ → Bool
+has3a x = not (isLast x)
 
--- the indicator is 1 and remaining is 0: octet 3a is absent exactly then
-abbrev pub isAlone : List ℕ → Bool
-isAlone s = isNew s && eqb (remainingOf s) 0
+abbrev pub referenceOf : List ℕ → ℕ → ℕ
+referenceOf s at = if has3a (octet s at) then octet s (at + 1) % 128 else 255
 
--- a context of 2000 has both addresses: a length octet and octets each, the originating one first
+abbrev pub pastSequence : List ℕ → ℕ → ℕ
+pastSequence s at = if has3a (octet s at) then at + 2 else at + 1
+
+-- a context of 1998 has no address fields; one of 2000 has both: originating length octet and octets, then destination the same way
+abbrev pub hasAddresses : ℕ → Bool
+hasAddresses kind = eqb kind 2
+
 abbrev pub originAt : List ℕ → ℕ
-originAt s = if has3a s then at3 s + 2 else at3 s + 1
+originAt s = pastSequence s (at3 s)
 
 abbrev pub pastAddress : List ℕ → ℕ → ℕ
 pastAddress s at = at + 1 + octet s at
 
-abbrev pub destinationAt : List ℕ → ℕ
-destinationAt s = pastAddress s (originAt s)
-
-abbrev pub hasAddresses : ℕ → Bool
-hasAddresses kind = eqb kind 2
-
 -- the rest is the information
-abbrev pub informationAt : ℕ → List ℕ → ℕ
-informationAt kind s = if hasAddresses kind then pastAddress s (destinationAt s) else originAt s
+abbrev pub informationAt : ℕ → List ℕ → ℕ → ℕ
+informationAt kind s at = if hasAddresses kind then pastAddress s (pastAddress s at) else at
 
--- the fields of a parameter that no check refuses
-unfoldable pub fieldsOf : List Entry → List ℕ → Fields
-fieldsOf registry s =
-    let kind : ℕ = kindOf registry (contextOf s) in
+-- what octets 1 to 3a say
+abbrev pub headingOf : List Entry → List ℕ → Heading
+headingOf registry s =
     record {
       context = record { 0 = contextOf s };
-      kind = kind;
-      instruction = instructionOf s;
-      new = isNew s;
-      remaining = record { 0 = remainingOf s };
-      reference = record { 0 = referenceOf s };
-      origin = if hasAddresses kind then originAt s + 1 else originAt s;
-      length = if hasAddresses kind then octet s (originAt s) else 0;
-      information = informationAt kind s;
+      kind = kindOf registry (contextOf s);
+      instruction = instructionOf (octet s (at2 s));
+      new = isNew (octet s (at3 s));
+      remaining = record { 0 = remainingOf (octet s (at3 s)) };
+      reference = record { 0 = referenceOf s (at3 s) };
     }
+
+-- the originating address and the information of a parameter whose addresses would start at a position
+abbrev pub fieldsAt : Heading → List ℕ → ℕ → Fields
+fieldsAt g s at =
+    record {
+      heading = g;
+      origin = if hasAddresses (g .kind) then at + 1 else at;
+      length = if hasAddresses (g .kind) then octet s at else 0;
+      information = informationAt (g .kind) s at;
+    }
+
+unfoldable pub fieldsOf : List Entry → List ℕ → Fields
+fieldsOf registry s = fieldsAt (headingOf registry s) s (originAt s)
 
 -- Refusals 4 to 9, by the octets from left to right
 
@@ -92,41 +102,65 @@ fieldsOf registry s =
 abbrev pub isMissing : List ℕ → ℕ → Bool
 isMissing s at = leb (length s) at
 
+-- octets 1a, 2 and 3a must have extension 1
+abbrev pub lastChecks : List ℕ → ℕ → List Check
+lastChecks s at =
+    5 when isMissing s at
+    ∷ 6 when not (isLast (octet s at))
+    ∷ []
+
 -- 8 stands at the context's last octet
 abbrev pub contextChecks : List Entry → List ℕ → List Check
 contextChecks registry s =
-    5 when isMissing s 0 ∷
-    5 when (has1a s && isMissing s 1) ∷
-    6 when (has1a s && not (isLast (octet s 1))) ∷
-    8 when eqb (kindOf registry (contextOf s)) 0 ∷ []
+    (5 when isMissing s 0 ∷ [])
+    ++ (if has1a s then lastChecks s 1 else [])
+    ++ (8 when eqb (kindOf registry (contextOf s)) 0 ∷ [])
 
-abbrev pub instructionChecks : List ℕ → List Check
-instructionChecks s =
-    5 when isMissing s (at2 s) ∷
-    6 when not (isLast (octet s (at2 s))) ∷ []
+-- 7 stands at octet 3, once 3a, if present, has passed 5 and 6: 3a is absent exactly when the indicator is 1 and remaining is 0
+abbrev pub sequenceChecks : List ℕ → ℕ → List Check
+sequenceChecks s at =
+    (5 when isMissing s at ∷ [])
+    ++ (if has3a (octet s at) then lastChecks s (at + 1) else [])
+    ++ (7 when Bool·beq (has3a (octet s at)) (isAlone (isNew (octet s at)) (remainingOf (octet s at))) ∷ [])
 
--- 7 stands at octet 3, once 3a, if present, has passed 5 and 6
-abbrev pub sequenceChecks : List ℕ → List Check
-sequenceChecks s =
-    5 when isMissing s (at3 s) ∷
-    5 when (has3a s && isMissing s (at3 s + 1)) ∷
-    6 when (has3a s && not (isLast (octet s (at3 s + 1)))) ∷
-    7 when Bool·beq (has3a s) (isAlone s) ∷ []
-
--- 9 stands at the length octet
+-- 9 stands at the length octet; an address is 0 to 20 octets
 abbrev pub addressChecks : List ℕ → ℕ → List Check
 addressChecks s at =
-    5 when isMissing s at ∷
-    9 when ltb addressMost (octet s at) ∷
-    5 when ltb (length s) (pastAddress s at) ∷ []
+    5 when isMissing s at
+    ∷ 9 when ltb addressMost (octet s at)
+    ∷ 5 when ltb (length s) (pastAddress s at)
+    ∷ []
 
-abbrev pub addressesChecks : ℕ → List ℕ → List Check
-addressesChecks kind s = if hasAddresses kind then addressChecks s (originAt s) ++ addressChecks s (destinationAt s) else []
+abbrev pub addressesChecks : ℕ → List ℕ → ℕ → List Check
+addressesChecks kind s at = if hasAddresses kind then addressChecks s at ++ addressChecks s (pastAddress s at) else []
 
 unfoldable pub readingChecks : List Entry → List ℕ → List Check
 readingChecks registry s =
     (4 when ltb parameterMost (length s) ∷ [])
     ++ contextChecks registry s
-    ++ instructionChecks s
-    ++ sequenceChecks s
-    ++ addressesChecks (kindOf registry (contextOf s)) s
+    ++ lastChecks s (at2 s)
+    ++ sequenceChecks s (at3 s)
+    ++ addressesChecks (kindOf registry (contextOf s)) s (originAt s)
+
+-- Writing. We write the shortest form of the context
+abbrev pub contextOctets : ℕ → List ℕ
+contextOctets x = if ltb x 128 then (128 + x) ∷ [] else x % 128 ∷ (128 + x / 128) ∷ []
+
+-- octets 3 and 3a
+abbrev pub sequenceOctets : Heading → List ℕ
+sequenceOctets g =
+    if isAlone (g .new) (g .remaining .0)
+    then 192 ∷ []
+    else (if g .new then 64 + g .remaining .0 else g .remaining .0) ∷ (128 + g .reference .0) ∷ []
+
+abbrev pub addressesOctets : ℕ → List ℕ → List ℕ → List ℕ
+addressesOctets kind o d = if hasAddresses kind then (length o ∷ o) ++ (length d ∷ d) else []
+
+-- a parameter with originating address o and destination address d; spare bits are written 0
+unfoldable pub parameterOctets : Heading → List ℕ → List ℕ → List ℕ → List ℕ
+parameterOctets g o d information =
+    contextOctets (g .context .0)
+    ++ ((128 + g .instruction) ∷ [])
+    ++ sequenceOctets g
+    ++ addressesOctets (g .kind) o d
+    ++ information

@@ -8,17 +8,18 @@ use Rattle.octets.specs.Splice.{splice}
 use Rattle.rules.specs.General.{if_then_else_}
 use Rattle.rules.specs.Numbers.{dataMost, storeLeast, placeStart}
 use Rattle.rules.specs.Refusals.{Check, _when_, judged}
-use Rattle.rules.specs.Layout.{fieldsOf, readingChecks}
+use Rattle.rules.specs.Layout.{isAlone, fieldsOf, readingChecks}
 use Rattle.rules.specs.Records.{delivered, lost, recordLength, zeroFilled, recordsOctets}
 use Rattle.rules.specs.Places.{freePlace, placeOf, lowestFree, isAt, numberOf, placeAt, putPlace}
 use Rattle.rules.specs.Soundness.{sound}
 use Rattle.rules.specs.declared.Key.{Key}
 use Rattle.rules.specs.declared.Place.{Place}
 use Rattle.rules.specs.declared.Table.{Table}
+use Rattle.rules.specs.declared.Remaining.{Remaining}
+use Rattle.rules.specs.declared.Heading.{Heading}
 use Rattle.rules.specs.declared.Fields.{Fields}
 use Rattle.rules.specs.declared.Record.{Record}
 use Rattle.rules.specs.declared.Found.{Found}
-use Rattle.rules.specs.declared.Found.the-variants.{At}
 use Rattle.rules.specs.declared.Part.the-variants.{OfParameter, OfStore}
 use Rattle.rules.specs.declared.Line.{Line}
 use Rattle.rules.specs.declared.Line.the-variants.{Unsegmented, Broken, Restart, Start, Final, Next}
@@ -26,34 +27,34 @@ use Rattle.rules.specs.declared.Decision.{Decision}
 use Rattle.rules.specs.declared.Decision.the-variants.{Refused, Saved, Delivered, Lost}
 use Rattle.rules.specs.declared.Received.{Received}
 
--- a sequence's key is association, context, originating address (length and octets) and reference
+-- a sequence's key is association, context, originating address (length and octets) and reference; the destination address is read and passed over
 abbrev pub keyOf : ℕ → List ℕ → Fields → Key
 keyOf association s f =
     record {
       address = zeroFilled (take (f .length) (drop (f .origin) s));
       association = association;
-      context = f .context;
-      reference = f .reference;
+      context = f .heading .context;
+      reference = f .heading .reference;
       length = f .length;
     }
 
--- application information is the tail of the parameter
+-- application information is handed on as the tail of the parameter
 abbrev pub informationOf : List ℕ → Fields → List ℕ
 informationOf s f = drop (f .information) s
 
--- the first line that applies, by whether the key is open, the remaining and the octets of its sequence so far, and the segment's fields and length
-unfoldable pub lineOf : Bool → ℕ → ℕ → Fields → ℕ → Line
-lineOf isOpen before saved f n =
-    if f .new && eqb (f .remaining .0) 0 then Unsegmented else
-    if ltb 9 (f .remaining .0) then Broken 4 else
-    if f .new && isOpen then Restart else
-    if f .new then Start else
+-- the first line that applies, by whether the key is open, the remaining and the octets of its sequence so far, and the segment's heading and length
+unfoldable pub lineOf : Bool → ℕ → ℕ → Heading → ℕ → Line
+lineOf isOpen before saved g n =
+    if isAlone (g .new) (g .remaining .0) then Unsegmented else
+    if ltb 9 (g .remaining .0) then Broken 4 else
+    if g .new && isOpen then Restart else
+    if g .new then Start else
     if not isOpen then Broken 1 else
-    if not (eqb (f .remaining .0 + 1) before) then Broken 2 else
+    if not (eqb (g .remaining .0 + 1) before) then Broken 2 else
     if ltb dataMost (saved + n) then Broken 5 else
-    if eqb (f .remaining .0) 0 then Final else Next
+    if eqb (g .remaining .0) 0 then Final else Next
 
--- the kind and the cause of the record that ends a sequence so; where none is made they are 0
+-- the kind and the cause of the record that a decision makes; where it makes none they are 0
 abbrev pub recordKind : Decision → ℕ
 recordKind Refused = 0
 recordKind (Saved p) = 0
@@ -70,25 +71,17 @@ abbrev pub recordOf : Decision → Key → ℕ → ℕ → ℕ → Record
 recordOf d key instruction segments octets =
     record { key = key; octets = octets; kind = recordKind d; instruction = instruction; cause = recordCause d; segments = segments }
 
--- an open place
-abbrev pub openPlace : Key → ℕ → Fields → ℕ → ℕ → ℕ → Place
-openPlace key instruction f segments octets start =
-    record {
-      key = key;
-      octets = octets;
-      start = start;
-      mark = 1;
-      instruction = instruction;
-      remaining = f .remaining;
-      segments = segments;
-    }
+-- an open place after a segment with so many remaining
+abbrev pub openPlace : Key → Remaining → ℕ → ℕ → ℕ → ℕ → Place
+openPlace key remaining instruction segments octets start =
+    record { key = key; octets = octets; start = start; mark = 1; instruction = instruction; remaining = remaining; segments = segments }
 
 -- only a first segment sets the start
-abbrev pub begun : Table → Key → Fields → ℕ → Place
-begun t key f n = openPlace key (f .instruction) f 1 n (t .clock)
+abbrev pub begun : Table → Key → Heading → ℕ → Place
+begun t key g n = openPlace key (g .remaining) (g .instruction) 1 n (t .clock)
 
-abbrev pub longer : Place → Key → Fields → ℕ → Place
-longer p key f n = openPlace key (p .instruction) f (p .segments + 1) (p .octets + n) (p .start)
+abbrev pub longer : Place → Key → Heading → ℕ → Place
+longer p key g n = openPlace key (g .remaining) (p .instruction) (p .segments + 1) (p .octets + n) (p .start)
 
 -- octets written to a place's stretch of the store, from index `at` of it on
 abbrev pub saveAt : List ℕ → ℕ → ℕ → List ℕ → List ℕ
@@ -101,50 +94,36 @@ pub record Effect : Type 0 where
   pub places : List Place
   pub store : List ℕ
 
--- the segment's key is at `place`, with p there; `room` is where a new sequence goes
+abbrev effect : Decision → List Record → List Place → List ℕ → Effect
+effect d rs ps store = record { decision = d; records = rs; places = ps; store = store }
+
+-- a segment of `key` with fields f and these octets: `place` is its key's, with p there, and `room` is where a new sequence goes
 unfoldable pub effectOf : Line → Table → List ℕ → Key → Fields → List ℕ → Found → Place → Found → Effect
 effectOf Unsegmented t store key f octets place p room =
     let d : Decision = Delivered (OfParameter (f .information) (length octets)) in
-    record { decision = d; records = recordOf d key (f .instruction) 1 (length octets) ∷ []; places = t .places; store = store }
+    effect d (recordOf d key (f .heading .instruction) 1 (length octets) ∷ []) (t .places) store
 effectOf (Broken cause) t store key f octets place p room =
     let d : Decision = Lost cause place in
-    let instruction : ℕ = if isAt place then p .instruction else f .instruction in
-    record {
-      decision = d;
-      records = recordOf d key instruction (p .segments + 1) (p .octets + length octets) ∷ [];
-      places = putPlace (t .places) place freePlace;
-      store = store;
-    }
+    let instruction : ℕ = if isAt place then p .instruction else f .heading .instruction in
+    effect d (recordOf d key instruction (p .segments + 1) (p .octets + length octets) ∷ []) (putPlace (t .places) place freePlace) store
 effectOf Restart t store key f octets place p room =
     let d : Decision = Lost 3 place in
-    record {
-      decision = d;
-      records = recordOf d key (p .instruction) (p .segments) (p .octets) ∷ [];
-      places = putPlace (t .places) place (begun t key f (length octets));
-      store = saveAt store (numberOf place) 0 octets;
-    }
+    effect d (recordOf d key (p .instruction) (p .segments) (p .octets) ∷ [])
+    (putPlace (t .places) place (begun t key (f .heading) (length octets)))
+    (saveAt store (numberOf place) 0 octets)
 effectOf Start t store key f octets place p room =
-    record {
-      decision = Saved (numberOf room);
-      records = [];
-      places = putPlace (t .places) room (begun t key f (length octets));
-      store = saveAt store (numberOf room) 0 octets;
-    }
+    effect (Saved (numberOf room)) []
+    (putPlace (t .places) room (begun t key (f .heading) (length octets)))
+    (saveAt store (numberOf room) 0 octets)
 effectOf Final t store key f octets place p room =
     let d : Decision = Delivered (OfStore (numberOf place) (p .octets + length octets)) in
-    record {
-      decision = d;
-      records = recordOf d key (p .instruction) (p .segments + 1) (p .octets + length octets) ∷ [];
-      places = putPlace (t .places) place freePlace;
-      store = saveAt store (numberOf place) (p .octets) octets;
-    }
+    effect d (recordOf d key (p .instruction) (p .segments + 1) (p .octets + length octets) ∷ [])
+    (putPlace (t .places) place freePlace)
+    (saveAt store (numberOf place) (p .octets) octets)
 effectOf Next t store key f octets place p room =
-    record {
-      decision = Saved (numberOf place);
-      records = [];
-      places = putPlace (t .places) place (longer p key f (length octets));
-      store = saveAt store (numberOf place) (p .octets) octets;
-    }
+    effect (Saved (numberOf place)) []
+    (putPlace (t .places) place (longer p key (f .heading) (length octets)))
+    (saveAt store (numberOf place) (p .octets) octets)
 
 abbrev pub isStart : Line → Bool
 isStart Unsegmented = false
@@ -158,17 +137,17 @@ abbrev pub withPlaces : Table → List Place → Table
 withPlaces t ps = record { places = ps; registry = t .registry; timer = t .timer; clock = t .clock }
 
 -- the line of a segment at a table
-abbrev pub lineAt : Table → Key → Fields → ℕ → Line
-lineAt t key f n =
+abbrev pub lineAt : Table → Key → Heading → ℕ → Line
+lineAt t key g n =
     let place : Found = placeOf key (t .places) in
     let p : Place = placeAt (t .places) place in
-    lineOf (isAt place) (p .remaining .0) (p .octets) f n
+    lineOf (isAt place) (p .remaining .0) (p .octets) g n
 
 -- Segment: 1, 2, 3, 4, then 5 to 9 by the octets, then 10: line 3 applies and no place is free
 unfoldable pub segmentChecks : Table → List ℕ → List ℕ → ℕ → List ℕ → List Check
 segmentChecks t store report association s =
     let f : Fields = fieldsOf (t .registry) s in
-    let line : Line = lineAt t (keyOf association s f) f (length (informationOf s f)) in
+    let line : Line = lineAt t (keyOf association s f) (f .heading) (length (informationOf s f)) in
     (1 when not (sound t) ∷
     2 when ltb (length store) storeLeast ∷
     3 when ltb (length report) recordLength ∷ [])
@@ -197,7 +176,7 @@ receivedAt t store report association s =
     let octets : List ℕ = informationOf s f in
     let place : Found = placeOf key (t .places) in
     receptionOf t report
-    (effectOf (lineAt t key f (length octets)) t store key f octets place (placeAt (t .places) place) (lowestFree (t .places)))
+    (effectOf (lineAt t key (f .heading) (length octets)) t store key f octets place (placeAt (t .places) place) (lowestFree (t .places)))
 
 -- a refusal returns its number, the table as it came, zero records, and no lent octet is altered
 unfoldable pub segment : Table → List ℕ → List ℕ → ℕ → List ℕ → Reception

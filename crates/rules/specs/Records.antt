@@ -13,10 +13,6 @@ delivered = 16
 abbrev pub lost : ℕ
 lost = 17
 
--- in a record, reference 255 means an unsegmented parameter
-abbrev pub unsegmentedReference : ℕ
-unsegmentedReference = 255
-
 -- one kind octet and 31 octets
 abbrev pub recordLength : ℕ
 recordLength = 32

@@ -1,5 +1,5 @@
 -- Section 'Sending'. o and d are the originating and the destination address.
-use Prim.Native.Nat.{ℕ, zero, suc, _+_, _-_, _*_, _/_, _%_}
+use Prim.Native.Nat.{ℕ, zero, suc, _+_, _-_, _*_, _/_}
 use mathlib.Core.Bool.{Bool, not, _&&_, _||_}
 use mathlib.Core.List.{List, [], _∷_, _++_}
 use lib.Dec.{eqb, leb, ltb}
@@ -9,23 +9,12 @@ use Rattle.rules.specs.General.{if_then_else_}
 use Rattle.rules.specs.Numbers.{dataMost, segmentsMost, parameterMost, addressMost, referenceMost, instructionMost}
 use Rattle.rules.specs.Refusals.{Check, _when_, judged}
 use Rattle.rules.specs.Registry.{kindOf}
-use Rattle.rules.specs.Layout.{hasAddresses}
+use Rattle.rules.specs.Layout.{contextOctets, addressesOctets, parameterOctets}
 use Rattle.rules.specs.Soundness.{sound}
 use Rattle.rules.specs.declared.Table.{Table}
+use Rattle.rules.specs.declared.Heading.{Heading}
 use Rattle.rules.specs.declared.Request.{Request}
 use Rattle.rules.specs.declared.Sent.{Sent}
-
--- we write the shortest form of the context
-abbrev pub contextOctets : ℕ → List ℕ
-contextOctets x = if ltb x 128 then (128 + x) ∷ [] else x % 128 ∷ (128 + x / 128) ∷ []
-
--- octets 3 and 3a; an unsegmented parameter is new with none remaining, and has no octet 3a
-abbrev pub sequenceOctets : Bool → Bool → ℕ → ℕ → List ℕ
-sequenceOctets segmented new remaining reference =
-    if segmented then (if new then 64 + remaining else remaining) ∷ (128 + reference) ∷ [] else 192 ∷ []
-
-abbrev pub addressesOctets : ℕ → List ℕ → List ℕ → List ℕ
-addressesOctets kind o d = if hasAddresses kind then (length o ∷ o) ++ (length d ∷ d) else []
 
 -- h, the header without octet 3a
 abbrev pub headerLength : ℕ → ℕ → List ℕ → List ℕ → ℕ
@@ -54,15 +43,24 @@ stretchOf a b whole (suc k) = take b (drop (a + k * b) whole)
 
 -- segment k has remaining equal to the count less 1 less k, and the indicator new only for k = 0; every segment repeats context, instruction, addresses and,
 -- where segmented, the reference
+abbrev pub headingFor : ℕ → ℕ → Request → ℕ → Heading
+headingFor kind h q n =
+    record {
+      context = q .context;
+      kind = kind;
+      instruction = q .instruction;
+      new = eqb (q .number) 0;
+      remaining = record { 0 = countOf h q n - 1 - q .number };
+      reference = record { 0 = if isSegmented h q n then q .reference .0 else 255 };
+    }
+
+abbrev pub carried : ℕ → Request → List ℕ → List ℕ
+carried h q whole = if isSegmented h q (length whole) then stretchOf (firstCarries h q) (laterCarries h q) whole (q .number) else whole
+
 unfoldable pub segmentOctets : ℕ → Request → List ℕ → List ℕ → List ℕ → List ℕ
 segmentOctets kind q o d whole =
     let h : ℕ = headerLength kind (q .context .0) o d in
-    let segmented : Bool = isSegmented h q (length whole) in
-    contextOctets (q .context .0)
-    ++ ((128 + q .instruction) ∷ [])
-    ++ sequenceOctets segmented (eqb (q .number) 0) (countOf h q (length whole) - 1 - q .number) (q .reference .0)
-    ++ addressesOctets kind o d
-    ++ (if segmented then stretchOf (firstCarries h q) (laterCarries h q) whole (q .number) else whole)
+    parameterOctets (headingFor kind h q (length whole)) o d (carried h q whole)
 
 -- Sending: 1, 8, 14, 9, 15, 17, 16, 18, 19, 20
 unfoldable pub sendingChecks : Table → Request → List ℕ → List ℕ → List ℕ → List ℕ → List Check

@@ -58,16 +58,21 @@ pub struct Record {
     pub segments: u8,
 }
 
-// The fields of a parameter. The originating address and the information stay where they are in it.
-pub struct Fields {
+// What a parameter's octets 1 to 3a say, with the kind of its context. It is unsegmented where it is new and none remains.
+pub struct Heading {
     pub context: Context,
     pub kind: u8,
     pub instruction: u8,
     pub new: bool,
     pub remaining: Remaining,
     pub reference: Reference,
+}
+
+// The fields of a parameter. The originating address and the information stay where they are in it.
+pub struct Fields {
+    pub heading: Heading,
     pub origin: usize,
-    pub length: usize,
+    pub length: u8,
     pub information: usize,
 }
 
