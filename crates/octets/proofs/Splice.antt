@@ -9,9 +9,9 @@ use native.Mathlib.Omega.{arith}
 use borrow.Author.Tests.{leb-true, leb-false}
 use borrow.Rule.Slice.PartMut.{putMid, midOf, postOf, mid-len}
 use lib.Dec.{leb}
-use lib.ListN.{length, take, drop, set, getD, length-set, length-drop, take-append-drop, drop-of-length-le}
+use lib.ListN.{length, take, drop, set, getD, length-set, length-drop, length-append, take-append-drop, drop-of-length-le}
 use lib.Seq.{sets, sets-eq, length-sets, take-suc, take-all, take-at, drop-at, length-take-le, set-append-left, set-out, take-set-le, drop-set-lt}
-use Rattle.octets.specs.Splice.{splice}
+use Rattle.octets.specs.Splice.{splice, Wrote}
 
 pub splice-length : (xs : List ℕ) (at : ℕ) (ys : List ℕ) → length (splice xs at ys) ≡ length xs
 unfolding splice
@@ -141,3 +141,11 @@ splice-tail a xs ys zs q h =
     let s : splice (take a xs ++ drop a xs) (length (take a xs) + 0) ys ≡ take a xs ++ splice (drop a xs) 0 ys = splice-right (take a xs) (drop a xs) 0 ys in
     rw (q, take-all (length xs - a) (drop a xs) (omega arith), drop-of-length-le (drop a xs) {i = length xs - a} (omega arith), append-nil)
     (sym s ∙ rw (n, add-zero, take-append-drop a xs))
+
+-- one writer after another
+pub wrote-then : {a b c : List ℕ} {i j k : ℕ} {xs ys : List ℕ} → Wrote a i xs b j → Wrote b j ys c k → Wrote a i (xs ++ ys) c k
+wrote-then {a} {b} {c} {i} {j} {k} {xs} {ys} f g =
+    record {
+      place = simp length-append (omega arith);
+      stored = g .stored ∙ rw (f .stored, f .place, splice-append a i xs ys);
+    }

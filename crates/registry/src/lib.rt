@@ -2,7 +2,10 @@
 use rules::Context;
 use rules::Entry;
 ghost use mathlib.Core.Path.{_≡_};
-ghost use Rattle.rules.specs.Registry.{kindOf};
+ghost use Prim.Native.Nat.{_+_};
+ghost use lib.ListN.{drop};
+ghost use Rattle.rules.specs.General.{every, everyTwo};
+ghost use Rattle.rules.specs.Registry.{kindOf, isUnused, isEntry, isUsable, entriesApart, registrySound};
 
 // The kind of a context: 1 of 1998, 2 of 2000, 0 where it is not registered.
 pub fn kind_of(registry: [Entry; 8], context: Context) -> u8
@@ -17,4 +20,78 @@ pub fn kind_of(registry: [Entry; 8], context: Context) -> u8
         i += 1;
     }
     0
+}
+
+// Whether an entry is all zero.
+pub fn is_unused(e: Entry) -> bool
+    ensures { λ r. ⌜ r ≡ isUnused e ⌝ }
+{
+    (e.kind == 0) & (e.context.0 == 0)
+}
+
+// Whether an entry has a known kind and a context in range.
+pub fn is_entry(e: Entry) -> bool
+    ensures { λ r. ⌜ r ≡ isEntry e ⌝ }
+{
+    ((e.kind == 1) | (e.kind == 2)) & ((1 <= e.context.0) & (e.context.0 <= 16383))
+}
+
+// Whether two entries do not list one context.
+pub fn are_apart(d: Entry, e: Entry) -> bool
+    ensures { λ r. ⌜ r ≡ entriesApart d e ⌝ }
+{
+    let unused = is_unused(d) | is_unused(e);
+    unused | !(d.context.0 == e.context.0)
+}
+
+// Whether an entry is apart from each from number at on.
+fn apart_from(registry: [Entry; 8], at: usize, d: Entry) -> bool
+    ensures { λ r. ⌜ r ≡ every (entriesApart d) (drop at registry) ⌝ }
+{
+    let mut i = at;
+    while i < 8 {
+        let e = registry[i];
+        if !are_apart(d, e) {
+            return false;
+        }
+        i += 1;
+    }
+    true
+}
+
+// Whether no context is listed twice.
+fn all_apart(registry: [Entry; 8]) -> bool
+    ensures { λ r. ⌜ r ≡ everyTwo entriesApart registry ⌝ }
+{
+    let mut i = 0;
+    while i < 8 {
+        let d = registry[i];
+        if !apart_from(registry, i + 1, d) {
+            return false;
+        }
+        i += 1;
+    }
+    true
+}
+
+// Whether every entry is unused or in range.
+fn all_usable(registry: [Entry; 8]) -> bool
+    ensures { λ r. ⌜ r ≡ every isUsable registry ⌝ }
+{
+    let mut i = 0;
+    while i < 8 {
+        let e = registry[i];
+        if !(is_unused(e) | is_entry(e)) {
+            return false;
+        }
+        i += 1;
+    }
+    true
+}
+
+// Whether the registry is sound.
+pub fn is_sound(registry: [Entry; 8]) -> bool
+    ensures { λ r. ⌜ r ≡ registrySound registry ⌝ }
+{
+    all_usable(registry) & all_apart(registry)
 }

@@ -4,3 +4,4 @@ pub mod Keys
 pub mod Records
 pub mod Places
 pub mod Numbers
+pub mod Lists

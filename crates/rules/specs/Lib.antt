@@ -13,5 +13,6 @@ pub mod Sweep
 pub mod Opening
 pub mod Sending
 pub mod Calls
+pub mod Promises
 pub mod Trace
 pub mod Examples

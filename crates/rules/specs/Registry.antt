@@ -40,8 +40,11 @@ abbrev pub entriesApart : Entry → Entry → Bool
 entriesApart d e = isUnused d || isUnused e || not (eqb (d .context .0) (e .context .0))
 
 -- sound: distinct and in range, unused entries all zero
+abbrev pub isUsable : Entry → Bool
+isUsable e = isUnused e || isEntry e
+
 abbrev pub registrySound : List Entry → Bool
-registrySound es = every (λ (e : Entry). isUnused e || isEntry e) es && everyTwo entriesApart es
+registrySound es = every isUsable es && everyTwo entriesApart es
 
 -- refusal 11: unknown kind, cut record, context out of range or listed twice, over 8
 abbrev pub listsRegistry : List ℕ → Bool

@@ -8,6 +8,7 @@ use Rattle.rules.specs.General.{every, everyTwo}
 use Rattle.rules.specs.Numbers.{timerInRange, referenceMost, instructionMost, segmentsMost, dataMost, addressMost, age}
 use Rattle.rules.specs.Registry.{kindOf, registrySound}
 use Rattle.rules.specs.Places.{sameKey, isOpen, isFree}
+use Rattle.rules.specs.declared.Entry.{Entry}
 use Rattle.rules.specs.declared.Place.{Place}
 use Rattle.rules.specs.declared.Table.{Table}
 
@@ -23,9 +24,9 @@ addressSound kind p =
 
 -- each open place has a registered context, reference to 127, instruction to 3, remaining 1 to 9, at least one segment, segments plus remaining at
 -- most 10, octets to 2,048, address as above, age below T
-unfoldable pub openSound : Table → Place → Bool
-openSound t p =
-    not (eqb (kindOf (t .registry) (p .key .context .0)) 0)
+unfoldable pub openSound : List Entry → ℕ → ℕ → Place → Bool
+openSound registry timer clock p =
+    not (eqb (kindOf registry (p .key .context .0)) 0)
     && leb (p .key .reference .0) referenceMost
     && leb (p .instruction) instructionMost
     && leb 1 (p .remaining .0)
@@ -33,8 +34,8 @@ openSound t p =
     && leb 1 (p .segments)
     && leb (p .segments + p .remaining .0) segmentsMost
     && leb (p .octets) dataMost
-    && addressSound (kindOf (t .registry) (p .key .context .0)) p
-    && ltb (age (t .clock) (p .start)) (t .timer)
+    && addressSound (kindOf registry (p .key .context .0)) p
+    && ltb (age clock (p .start)) timer
 
 -- free places are all zero
 unfoldable pub freeSound : Place → Bool
@@ -50,8 +51,8 @@ freeSound p =
     && isZero (p .segments)
     && every isZero (p .key .address)
 
-abbrev pub placeSound : Table → Place → Bool
-placeSound t p = (isOpen p && openSound t p) || (isFree p && freeSound p)
+abbrev pub placeSound : List Entry → ℕ → ℕ → Place → Bool
+placeSound registry timer clock p = (isOpen p && openSound registry timer clock p) || (isFree p && freeSound p)
 
 -- no two open places share a key
 abbrev pub placesApart : Place → Place → Bool
@@ -61,5 +62,5 @@ unfoldable pub sound : Table → Bool
 sound t =
     timerInRange (t .timer)
     && registrySound (t .registry)
-    && every (placeSound t) (t .places)
+    && every (placeSound (t .registry) (t .timer) (t .clock)) (t .places)
     && everyTwo placesApart (t .places)

@@ -1,0 +1,19 @@
+use mathlib.Core.Path.{_∙_}
+use Rattle.rules.specs.Places.{sameKey}
+use borrow.Author.Needs.{needs}
+use Rattle.table.proofs.same_key.Statement.{statement}
+use Rattle.table.proofs.same_key.Tie as tie
+
+same-octets-requires : tie.Need-same-octets-requires
+same-octets-requires c κs = search needs
+
+returns : tie.Need-returns
+unfolding sameKey
+returns c = c .same-octets .ensures ∙ simp (c .before .before .before .if1 .taken)
+
+returns-2 : tie.Need-returns-2
+unfolding sameKey
+returns-2 c = simp (c .if1 .left)
+
+pub same-key-spec : {M : Type 1} → statement M
+same-key-spec = tie.close (tie.spec same-octets-requires returns returns-2)

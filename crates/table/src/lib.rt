@@ -1,0 +1,259 @@
+// The table: whether it is sound, which place has a key, which is free, and its opening.
+use rules::Context;
+use rules::Entry;
+use rules::Found;
+use rules::Key;
+use rules::Place;
+use rules::Reference;
+use rules::Remaining;
+use rules::Table;
+ghost use mathlib.Core.Path.{_≡_};
+ghost use Prim.Native.Nat.{_+_, _≤_};
+ghost use lib.ListN.{drop};
+ghost use Rattle.rules.specs.General.{every, everyTwo};
+ghost use Rattle.rules.specs.Numbers.{age};
+ghost use Rattle.rules.specs.Places.{sameOctets, sameKey, holds, placeOf, lowestFree, freePlace};
+ghost use Rattle.rules.specs.Soundness.{isZero, addressSound, openSound, freeSound, placeSound, placesApart, sound};
+
+// The new time less the old, modulo 2^32: an age, and a step of the clock.
+pub fn age_of(new: u32, old: u32) -> u32
+    ensures { λ r. ⌜ r ≡ age new old ⌝ }
+{
+    std::num::wrapping_sub_u32(new, old)
+}
+
+// Whether two zero-filled addresses have the same octets.
+fn same_octets(a: [u8; 20], b: [u8; 20]) -> bool
+    ensures { λ r. ⌜ r ≡ sameOctets a b ⌝ }
+{
+    let mut i = 0;
+    while i < 20 {
+        if a[i] != b[i] {
+            return false;
+        }
+        i += 1;
+    }
+    true
+}
+
+// Whether two keys are the same: nothing else compares keys.
+pub fn same_key(a: Key, b: Key) -> bool
+    ensures { λ r. ⌜ r ≡ sameKey a b ⌝ }
+{
+    let numbers = (a.association == b.association)
+        & (a.context.0 == b.context.0)
+        & (a.reference.0 == b.reference.0)
+        & (a.length == b.length);
+    if numbers {
+        let x = a.address;
+        let y = b.address;
+        return same_octets(x, y);
+    }
+    false
+}
+
+// Whether an address is zero from index at on.
+fn zero_from(a: [u8; 20], at: usize) -> bool
+    ensures { λ r. ⌜ r ≡ every isZero (drop at a) ⌝ }
+{
+    let mut i = at;
+    while i < 20 {
+        if a[i] != 0 {
+            return false;
+        }
+        i += 1;
+    }
+    true
+}
+
+// Whether an open place's address is to 20, zero filled, and empty for 1998.
+fn address_sound(kind: u8, p: Place) -> bool
+    ensures { λ r. ⌜ r ≡ addressSound kind p ⌝ }
+{
+    let length = p.key.length;
+    let address = p.key.address;
+    let filled = zero_from(address, length as usize);
+    (length <= 20) & filled & (!(kind == 1) | (length == 0))
+}
+
+// Whether an open place is sound.
+fn open_sound(registry: [Entry; 8], timer: u32, clock: u32, p: Place) -> bool
+    ensures { λ r. ⌜ r ≡ openSound registry timer clock p ⌝ }
+{
+    let context = p.key.context;
+    let kind = registry::kind_of(registry, context);
+    let sum = (p.segments as u16) + (p.remaining.0 as u16);
+    let numbers = !(kind == 0)
+        & (p.key.reference.0 <= 127)
+        & (p.instruction <= 3)
+        & (1 <= p.remaining.0)
+        & (p.remaining.0 <= 9)
+        & (1 <= p.segments)
+        & (sum <= 10)
+        & (p.octets <= 2048);
+    let address = address_sound(kind, p);
+    let young = age_of(clock, p.start) < timer;
+    numbers & address & young
+}
+
+// Whether a free place is all zero.
+fn free_sound(p: Place) -> bool
+    ensures { λ r. ⌜ r ≡ freeSound p ⌝ }
+{
+    let numbers = (p.key.association == 0)
+        & (p.key.context.0 == 0)
+        & (p.key.reference.0 == 0)
+        & (p.key.length == 0)
+        & (p.octets == 0)
+        & (p.start == 0)
+        & (p.instruction == 0)
+        & (p.remaining.0 == 0)
+        & (p.segments == 0);
+    let address = p.key.address;
+    numbers & zero_from(address, 0)
+}
+
+// Whether a place is sound: open or free, and no other mark.
+fn place_sound(registry: [Entry; 8], timer: u32, clock: u32, p: Place) -> bool
+    ensures { λ r. ⌜ r ≡ placeSound registry timer clock p ⌝ }
+{
+    if p.mark == 1 {
+        return open_sound(registry, timer, clock, p);
+    }
+    if p.mark == 0 {
+        return free_sound(p);
+    }
+    false
+}
+
+// Whether every place is sound.
+fn all_sound(places: [Place; 16], registry: [Entry; 8], timer: u32, clock: u32) -> bool
+    ensures { λ r. ⌜ r ≡ every (placeSound registry timer clock) places ⌝ }
+{
+    let mut i = 0;
+    while i < 16 {
+        let p = places[i];
+        if !place_sound(registry, timer, clock, p) {
+            return false;
+        }
+        i += 1;
+    }
+    true
+}
+
+// Whether two places are not open with one key.
+fn are_apart(p: Place, q: Place) -> bool
+    ensures { λ r. ⌜ r ≡ placesApart p q ⌝ }
+{
+    let both = (p.mark == 1) & (q.mark == 1);
+    if both {
+        let a = p.key;
+        let b = q.key;
+        return !same_key(a, b);
+    }
+    true
+}
+
+// Whether an open place is apart from each from number at on; a place that is not open is apart from all.
+fn apart_from(places: [Place; 16], at: usize, p: Place) -> bool
+    ensures { λ r. ⌜ r ≡ every (placesApart p) (drop at places) ⌝ }
+{
+    let mut i = at;
+    while i < 16 {
+        let q = places[i];
+        if !are_apart(p, q) {
+            return false;
+        }
+        i += 1;
+    }
+    true
+}
+
+// Whether no two open places share a key.
+fn all_apart(places: [Place; 16]) -> bool
+    ensures { λ r. ⌜ r ≡ everyTwo placesApart places ⌝ }
+{
+    let mut i = 0;
+    while i < 16 {
+        let p = places[i];
+        if !apart_from(places, i + 1, p) {
+            return false;
+        }
+        i += 1;
+    }
+    true
+}
+
+// Whether a table is sound.
+pub fn is_sound(t: Table) -> bool
+    ensures { λ r. ⌜ r ≡ sound t ⌝ }
+{
+    let timed = (1 <= t.timer) & (t.timer <= 1000000);
+    let registry = t.registry;
+    let places = t.places;
+    let listed = registry::is_sound(registry);
+    let each = all_sound(places, registry, t.timer, t.clock);
+    let apart = all_apart(places);
+    timed & listed & each & apart
+}
+
+// Whether a place is open with a key.
+pub fn has_key(p: Place, k: Key) -> bool
+    ensures { λ r. ⌜ r ≡ holds k p ⌝ }
+{
+    if p.mark == 1 {
+        let own = p.key;
+        return same_key(own, k);
+    }
+    false
+}
+
+// The place that is open with a key.
+pub fn place_of(places: [Place; 16], k: Key) -> Found
+    ensures { λ r. ⌜ r ≡ placeOf k places ⌝ }
+{
+    let mut i = 0;
+    while i < 16 {
+        let p = places[i];
+        if has_key(p, k) {
+            return Found::At(i);
+        }
+        i += 1;
+    }
+    Found::Nothing
+}
+
+// The lowest free place.
+pub fn lowest_free(places: [Place; 16]) -> Found
+    ensures { λ r. ⌜ r ≡ lowestFree places ⌝ }
+{
+    let mut i = 0;
+    while i < 16 {
+        if places[i].mark == 0 {
+            return Found::At(i);
+        }
+        i += 1;
+    }
+    Found::Nothing
+}
+
+// A place with nothing in it: all zero.
+pub fn free_place() -> Place
+    ensures { λ r. ⌜ r ≡ freePlace ⌝ }
+{
+    Place {
+        key: Key {
+            address: [0; 20],
+            association: 0,
+            context: Context(0),
+            reference: Reference(0),
+            length: 0,
+        },
+        octets: 0,
+        start: 0,
+        mark: 0,
+        instruction: 0,
+        remaining: Remaining(0),
+        segments: 0,
+    }
+}
