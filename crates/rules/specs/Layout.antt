@@ -153,8 +153,11 @@ sequenceOctets g =
     then 192 ∷ []
     else (if g .new then 64 + g .remaining .0 else g .remaining .0) ∷ (128 + g .reference .0) ∷ []
 
+abbrev pub addressOctets : List ℕ → List ℕ
+addressOctets address = length address ∷ address
+
 abbrev pub addressesOctets : ℕ → List ℕ → List ℕ → List ℕ
-addressesOctets kind o d = if hasAddresses kind then (length o ∷ o) ++ (length d ∷ d) else []
+addressesOctets kind o d = if hasAddresses kind then addressOctets o ++ addressOctets d else []
 
 -- a parameter with originating address o and destination address d; spare bits are written 0
 unfoldable pub parameterOctets : Heading → List ℕ → List ℕ → List ℕ → List ℕ
