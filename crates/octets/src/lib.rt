@@ -2,6 +2,7 @@
 ghost use mathlib.Core.Path.{_≡_};
 ghost use mathlib.Core.List.{[], _∷_};
 ghost use Prim.Native.Nat.{min};
+ghost use lib.ListN.{take, drop};
 ghost use Rattle.octets.specs.Splice.{splice};
 ghost use Rattle.octets.specs.Number.{number, bigEndian};
 
@@ -32,6 +33,21 @@ pub fn put_at(dst: &mut [u8], at: usize, src: &[u8])
         return;
     }
     put(&mut dst[at..], src);
+}
+
+// The n octets of s from a place on, as far as s reaches: a part of it, not a copy.
+pub fn stretch(s: &[u8], from: usize, n: usize) -> &[u8]
+    ensures { λ r. ⌜ now r ≡ take n (drop from (now (s .entry))) ⌝ }
+{
+    if s.len() <= from {
+        return &s[..0];
+    }
+    let left = s.len() - from;
+    if left <= n {
+        return &s[from..];
+    }
+    let end = from + n;
+    &s[from..end]
 }
 
 // Two octets as a number.

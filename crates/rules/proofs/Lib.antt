@@ -5,3 +5,5 @@ pub mod Records
 pub mod Places
 pub mod Numbers
 pub mod Lists
+pub mod Cutting
+pub mod ReadBack

@@ -128,7 +128,7 @@ pub struct Opened {
 pub struct Sent {
     pub refusal: u8,
     pub count: u8,
-    pub length: u8,
+    pub length: u16,
 }
 
 // What sending is asked for, beside addresses and data.
