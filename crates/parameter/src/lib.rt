@@ -266,13 +266,13 @@ fn put_context(area: &mut [u8], context: Context) -> usize
     requires { ⌜ context .0 < 16384 ⌝ }
     ensures { λ r. ⌜ Wrote (now (area .entry)) 0 (contextOctets (context .0)) (now (area .exit)) r ⌝ }
 {
-    let x = context.0;
-    if x < 128 {
-        let one = [(128 + x) as u8];
+    let number = context.0;
+    if number < 128 {
+        let one = [(128 + number) as u8];
         octets::put_at(area, 0, &one);
         return 1;
     }
-    let two = [(x % 128) as u8, (128 + x / 128) as u8];
+    let two = [(number % 128) as u8, (128 + number / 128) as u8];
     octets::put_at(area, 0, &two);
     2
 }

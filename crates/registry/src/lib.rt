@@ -2,7 +2,9 @@
 use rules::Context;
 use rules::Entry;
 ghost use mathlib.Core.Path.{_≡_};
+ghost use mathlib.Core.Bool.{_||_};
 ghost use Prim.Native.Nat.{_+_};
+ghost use lib.Dec.{eqb};
 ghost use lib.ListN.{drop};
 ghost use Rattle.rules.specs.General.{every, everyTwo};
 ghost use Rattle.rules.specs.Registry.{kindOf, isUnused, isEntry, isUsable, entriesApart, registrySound};
@@ -29,11 +31,22 @@ pub fn is_unused(e: Entry) -> bool
     (e.kind == 0) & (e.context.0 == 0)
 }
 
+// Whether a kind octet is that of a registered context.
+pub fn is_known(kind: u8) -> bool
+    ensures { λ r. ⌜ r ≡ (eqb kind 1 || eqb kind 2) ⌝ }
+{
+    match kind {
+        1 | 2 => true,
+        0 | 3..=255 => false,
+    }
+}
+
 // Whether an entry has a known kind and a context in range.
 pub fn is_entry(e: Entry) -> bool
     ensures { λ r. ⌜ r ≡ isEntry e ⌝ }
 {
-    ((e.kind == 1) | (e.kind == 2)) & ((1 <= e.context.0) & (e.context.0 <= 16383))
+    let kind = e.kind;
+    is_known(kind) & ((1 <= e.context.0) & (e.context.0 <= 16383))
 }
 
 // Whether two entries do not list one context.
@@ -60,7 +73,7 @@ fn apart_from(registry: [Entry; 8], at: usize, d: Entry) -> bool
 }
 
 // Whether no context is listed twice.
-fn all_apart(registry: [Entry; 8]) -> bool
+pub fn all_apart(registry: [Entry; 8]) -> bool
     ensures { λ r. ⌜ r ≡ everyTwo entriesApart registry ⌝ }
 {
     let mut i = 0;

@@ -7,3 +7,4 @@ pub mod Numbers
 pub mod Lists
 pub mod Cutting
 pub mod ReadBack
+pub mod Registry
