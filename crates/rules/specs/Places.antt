@@ -54,7 +54,7 @@ zeroPlace address =
 abbrev pub freePlace : Place
 freePlace = zeroPlace (replicate addressMost 0)
 
--- what stands past the last place, and where no sequence is: nothing
+-- what stands past the last place: nothing
 abbrev pub noPlace : Place
 noPlace = zeroPlace []
 
@@ -80,10 +80,10 @@ abbrev pub numberOf : Found → ℕ
 numberOf (At i) = i
 numberOf Nothing = placeCount
 
--- what stands there
+-- what stands there; nothing is saved where no place was found
 abbrev pub placeAt : List Place → Found → Place
 placeAt ps (At i) = getD ps i noPlace
-placeAt ps Nothing = noPlace
+placeAt ps Nothing = freePlace
 
 -- the places with another one there
 abbrev pub putPlace : List Place → Found → Place → List Place

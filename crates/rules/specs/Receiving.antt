@@ -67,9 +67,12 @@ recordCause (Saved p) = 0
 recordCause (Delivered part) = 0
 recordCause (Lost cause p) = cause
 
+abbrev pub recordWith : ℕ → ℕ → Key → ℕ → ℕ → ℕ → Record
+recordWith kind cause key instruction segments octets =
+    record { key = key; octets = octets; kind = kind; instruction = instruction; cause = cause; segments = segments }
+
 abbrev pub recordOf : Decision → Key → ℕ → ℕ → ℕ → Record
-recordOf d key instruction segments octets =
-    record { key = key; octets = octets; kind = recordKind d; instruction = instruction; cause = recordCause d; segments = segments }
+recordOf d key instruction segments octets = recordWith (recordKind d) (recordCause d) key instruction segments octets
 
 -- an open place after a segment with so many remaining
 abbrev pub openPlace : Key → Remaining → ℕ → ℕ → ℕ → ℕ → Place
