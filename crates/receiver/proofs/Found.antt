@@ -16,7 +16,7 @@ use Rattle.rules.specs.declared.Key.{Key}
 use Rattle.rules.specs.declared.Fields.{Fields}
 use Rattle.rules.specs.declared.Found.{Found}
 use Rattle.rules.specs.declared.Found.the-variants.{At, Nothing}
-use Rattle.receiver.specs.Arrival.{Inside}
+use Rattle.table.specs.Inside.{Inside}
 
 pub inside-at : (f : Found) (i : ℕ) → f ≡ At i → Inside f → i < placeCount
 inside-at f i e h = (rw e at h) refl

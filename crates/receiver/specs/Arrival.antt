@@ -5,9 +5,10 @@ use mathlib.Core.Bool.{Bool, true, false, not, _&&_}
 use mathlib.Core.List.{List, [], _∷_}
 use lib.ListN.{length}
 use Rattle.rules.specs.Refusals.{_when_, judged}
-use Rattle.rules.specs.Numbers.{placeCount, dataMost, storeLeast}
-use Rattle.rules.specs.Places.{placeOf, lowestFree, isAt, numberOf, placeAt}
+use Rattle.rules.specs.Numbers.{dataMost, storeLeast}
+use Rattle.rules.specs.Places.{placeOf, lowestFree, isAt, placeAt}
 use Rattle.rules.specs.Receiving.{keyOf, informationOf, lineAt, effectOf, isStart, Reception, receptionOf}
+use Rattle.table.specs.Inside.{Inside}
 use Rattle.rules.specs.declared.Key.{Key}
 use Rattle.rules.specs.declared.Place.{Place}
 use Rattle.rules.specs.declared.Table.{Table}
@@ -51,10 +52,6 @@ Tells isOpen saved n Restart = isOpen ≡ true
 Tells isOpen saved n Start = Unit {0}
 Tells isOpen saved n Final = (isOpen ≡ true) × (saved + n ≤ dataMost)
 Tells isOpen saved n Next = (isOpen ≡ true) × (saved + n ≤ dataMost)
-
--- a place that was found is one of the table's
-abbrev pub Inside : Found → Type 0
-Inside place = isAt place ≡ true → numberOf place < placeCount
 
 -- what carrying out a line is given: areas that are long enough, a short segment, and what a sound place holds
 pub record Ready (store octets : List ℕ) (place : Found) (p : Place) (room : Found) : Type 0 where

@@ -20,8 +20,11 @@ ghost use Rattle.rules.specs.General.{if_then_else_};
 ghost use Rattle.rules.specs.Numbers.{stretchLength, storeLeast, placeCount, addressMost};
 ghost use Rattle.rules.specs.Places.{isAt, numberOf, placeAt, putPlace};
 ghost use Rattle.rules.specs.Receiving.{keyOf, lineOf, effectOf, isStart, openPlace, begun, longer, recordWith, saveAt, withPlaces};
+ghost use Rattle.rules.specs.Soundness.{sound};
+ghost use Rattle.rules.specs.Delivery.{partOf, partOfPlace, delivery};
 ghost use Rattle.rules.specs.Promises.{OfSegment};
-ghost use Rattle.receiver.specs.Arrival.{arrival, refusedAs, carriedOut, Leaves, Tells, Inside, Ready};
+ghost use Rattle.table.specs.Inside.{Inside};
+ghost use Rattle.receiver.specs.Arrival.{arrival, refusedAs, carriedOut, Leaves, Tells, Ready};
 
 // Whether a place was found.
 fn is_at(f: Found) -> bool
@@ -370,4 +373,155 @@ fn go_on(
     save_at(store, number, saved, octets);
     let next = longer_place(p, key, f, n);
     received(with_place(t, place, next), Decision::Saved(number), 0)
+}
+
+// What a line does.
+fn carry_out(
+    line: Line,
+    t: Table,
+    store: &mut [u8],
+    report: &mut [u8],
+    key: Key,
+    f: Fields,
+    octets: &[u8],
+    place: Found,
+    p: Place,
+    room: Found,
+) -> Received
+    requires { ⌜ Ready (now store) (now octets) place p room ⌝ }
+    requires { ⌜ Tells (isAt place) (p .octets) (length (now octets)) line ⌝ }
+    requires { ⌜ (isStart line ≡ true → isAt room ≡ true) ⌝ }
+    ensures { λ r. ⌜ Leaves (carriedOut line t (now (store .entry)) (now (report .entry)) key f (now (octets .entry)) place p room) r (now (store .exit)) (now (report .exit)) ⌝ }
+{
+    match line {
+        Line::Unsegmented => unsegmented(t, store, report, key, f, octets, place, p, room),
+        Line::Broken(cause) => broken(cause, t, store, report, key, f, octets, place, p, room),
+        Line::Restart => restart(t, store, report, key, f, octets, place, p, room),
+        Line::Start => start(t, store, report, key, f, octets, place, p, room),
+        Line::Final => finish(t, store, report, key, f, octets, place, p, room),
+        Line::Next => go_on(t, store, report, key, f, octets, place, p, room),
+    }
+}
+
+// Whether a line needs a place for a new sequence.
+fn starts(line: Line) -> bool
+    ensures { λ r. ⌜ r ≡ isStart line ⌝ }
+{
+    match line {
+        Line::Unsegmented => false,
+        Line::Broken(_) => false,
+        Line::Restart => false,
+        Line::Start => true,
+        Line::Final => false,
+        Line::Next => false,
+    }
+}
+
+// A refusal: the table as it came, and nothing else.
+fn refused(t: Table, number: u8) -> Received
+    ensures { λ r. ⌜ r ≡ record { table = t; decision = Decision.Refused; refusal = number; records = 0 } ⌝ }
+{
+    Received {
+        table: t,
+        decision: Decision::Refused,
+        refusal: number,
+        records: 0,
+    }
+}
+
+// A segment that has been read: judged, and carried out.
+fn arrive(
+    t: Table,
+    store: &mut [u8],
+    report: &mut [u8],
+    association: u16,
+    s: &[u8],
+    f: Fields,
+) -> Received
+    requires { ⌜ sound t ≡ true ⌝ }
+    requires { ⌜ storeLeast ≤ length (now store) ⌝ }
+    requires { ⌜ (length (now s) ≤ 255) × (f .length ≤ addressMost) ⌝ }
+    ensures { λ r. ⌜ Leaves (arrival t (now (store .entry)) (now (report .entry)) association (now (s .entry)) f) r (now (store .exit)) (now (report .exit)) ⌝ }
+{
+    let key = key_of(association, s, f);
+    let from = f.information;
+    let octets = parameter::tail(s, from);
+    let places = t.places;
+    let place = table::place_of(places, key);
+    let room = table::lowest_free(places);
+    let p = place_at(places, place);
+    let heading = f.heading;
+    let remaining = p.remaining;
+    let line = line_of(is_at(place), remaining, p.octets, heading, octets.len());
+    let full = starts(line) & !is_at(room);
+    if full {
+        return refused(t, 10);
+    }
+    carry_out(line, t, store, report, key, f, octets, place, p, room)
+}
+
+// A segment arrives.
+pub fn segment(
+    t: Table,
+    store: &mut [u8],
+    report: &mut [u8],
+    association: u16,
+    s: &[u8],
+) -> Received
+    ensures { λ r. ⌜ OfSegment t (now (store .entry)) (now (report .entry)) association (now (s .entry)) r (now (store .exit)) (now (report .exit)) ⌝ }
+{
+    if !table::is_sound(t) {
+        return refused(t, 1);
+    }
+    if store.len() < 32768 {
+        return refused(t, 2);
+    }
+    if report.len() < 32 {
+        return refused(t, 3);
+    }
+    let registry = t.registry;
+    match parameter::read(registry, s) {
+        Reading::Refused(number) => refused(t, number),
+        Reading::Read(f) => arrive(t, store, report, association, s, f),
+    }
+}
+
+// So many octets of a list from a position on, or none where they are not all inside.
+fn part_of(s: &[u8], start: usize, n: usize) -> &[u8]
+    ensures { λ r. ⌜ now r ≡ partOf (now (s .entry)) start n ⌝ }
+{
+    if s.len() < start {
+        return &s[..0];
+    }
+    if s.len() - start < n {
+        return &s[..0];
+    }
+    let end = start + n;
+    &s[start..end]
+}
+
+// So many octets from the start of a place's stretch of the store, or none where they are not all inside it.
+fn part_of_place(store: &[u8], place: usize, n: usize) -> &[u8]
+    ensures { λ r. ⌜ now r ≡ partOfPlace (now (store .entry)) place n ⌝ }
+{
+    let inside = (place < 16) & (n <= 2048);
+    if inside {
+        return part_of(store, 2048 * place, n);
+    }
+    &store[..0]
+}
+
+// What was delivered: a part of the parameter or a part of the store, according to the decision.
+pub fn delivery<'a>(decision: Decision, s: &'a [u8], store: &'a [u8]) -> &'a [u8]
+    ensures { λ r. ⌜ now r ≡ delivery decision (now (s .entry)) (now (store .entry)) ⌝ }
+{
+    match decision {
+        Decision::Delivered(part) => match part {
+            Part::OfParameter { start, length } => part_of(s, start, length),
+            Part::OfStore { place, length } => part_of_place(store, place, length),
+        },
+        Decision::Refused => &s[..0],
+        Decision::Saved(_) => &s[..0],
+        Decision::Lost(_, _) => &s[..0],
+    }
 }

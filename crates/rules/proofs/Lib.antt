@@ -8,3 +8,5 @@ pub mod Lists
 pub mod Cutting
 pub mod ReadBack
 pub mod Registry
+pub mod Reading
+pub mod Held

@@ -18,6 +18,7 @@ ghost use Rattle.rules.specs.Registry.{isEntry, entriesOf};
 ghost use Rattle.rules.specs.Opening.{noEntry, emptyTable, unopened};
 ghost use Rattle.rules.specs.Promises.{OfOpening};
 ghost use Rattle.rules.specs.Places.{sameOctets, sameKey, holds, placeOf, lowestFree, freePlace};
+ghost use Rattle.table.specs.Inside.{Inside};
 ghost use Rattle.rules.specs.Soundness.{isZero, addressSound, openSound, freeSound, placeSound, placesApart, sound};
 
 // The new time less the old, modulo 2^32: an age, and a step of the clock.
@@ -216,6 +217,7 @@ pub fn has_key(p: Place, k: Key) -> bool
 // The place that is open with a key.
 pub fn place_of(places: [Place; 16], k: Key) -> Found
     ensures { λ r. ⌜ r ≡ placeOf k places ⌝ }
+    ensures { λ r. ⌜ Inside r ⌝ }
 {
     let mut i = 0;
     while i < 16 {
@@ -231,6 +233,7 @@ pub fn place_of(places: [Place; 16], k: Key) -> Found
 // The lowest free place.
 pub fn lowest_free(places: [Place; 16]) -> Found
     ensures { λ r. ⌜ r ≡ lowestFree places ⌝ }
+    ensures { λ r. ⌜ Inside r ⌝ }
 {
     let mut i = 0;
     while i < 16 {

@@ -1,5 +1,6 @@
+use mathlib.Core.Bool.{true≢false}
 use Prim.Native.Nat.{_-_}
-use mathlib.Core.Path.{_≡_, refl}
+use mathlib.Core.Path.{_≡_, refl, sym}
 use borrow.Author.Tests.{eq-eqb, ne-eqb}
 use lib.ListN.{drop}
 use Rattle.rules.specs.Places.{firstFrom, isFree}
@@ -26,7 +27,7 @@ element-copy-out-if1 c = omega arith
 returns : tie.Need-returns Inv-loop μ-loop
 returns c =
     let l = c .before .before in
-    first-found isFree (l .before .args .t1) (l .loop .i) _ (l .loop .inv) (omega arith) (eq-eqb _ _ (c .if1 .taken))
+    (first-found isFree (l .before .args .t1) (l .loop .i) _ (l .loop .inv) (omega arith) (eq-eqb _ _ (c .if1 .taken)), λ e. omega arith)
 
 add-i : tie.Need-add-i Inv-loop μ-loop
 add-i c = omega arith
@@ -42,7 +43,7 @@ loop-again c =
 returns-2 : tie.Need-returns-2 Inv-loop μ-loop
 returns-2 c =
     let l = c .before in
-    first-ends isFree (l .before .args .t1) (l .loop .i) _ (l .loop .inv) (omega arith)
+    (first-ends isFree (l .before .args .t1) (l .loop .i) _ (l .loop .inv) (omega arith), λ e. absurd (true≢false (sym e)))
 
 pub lowest-free-spec : {M : Type 1} → statement M
 lowest-free-spec =

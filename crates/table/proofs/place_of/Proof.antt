@@ -1,3 +1,4 @@
+use mathlib.Core.Bool.{true≢false}
 use Prim.Native.Nat.{_-_}
 use mathlib.Core.Path.{_≡_, refl, sym, _∙_}
 use lib.ListN.{drop}
@@ -30,7 +31,7 @@ returns : tie.Need-returns Inv-loop μ-loop
 returns c =
     let l = c .before .before .before .before in
     let a = l .before .args in
-    first-found (holds (a .k)) (a .t1) (l .loop .i) _ (l .loop .inv) (omega arith) (sym (c .before .has-key .ensures) ∙ c .if1 .taken)
+    (first-found (holds (a .k)) (a .t1) (l .loop .i) _ (l .loop .inv) (omega arith) (sym (c .before .has-key .ensures) ∙ c .if1 .taken), λ e. omega arith)
 
 add-i : tie.Need-add-i Inv-loop μ-loop
 add-i c = omega arith
@@ -48,7 +49,7 @@ returns-2 : tie.Need-returns-2 Inv-loop μ-loop
 returns-2 c =
     let l = c .before in
     let a = l .before .args in
-    first-ends (holds (a .k)) (a .t1) (l .loop .i) _ (l .loop .inv) (omega arith)
+    (first-ends (holds (a .k)) (a .t1) (l .loop .i) _ (l .loop .inv) (omega arith), λ e. absurd (true≢false (sym e)))
 
 pub place-of-spec : {M : Type 1} → statement M
 place-of-spec =
