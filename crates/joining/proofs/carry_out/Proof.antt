@@ -1,0 +1,129 @@
+use mathlib.Core.Path.{refl}
+use borrow.Author.Needs.{needs}
+use Rattle.joining.proofs.carry_out.Statement.{statement}
+use Rattle.joining.proofs.carry_out.Tie as tie
+
+enum-told : tie.Need-enum-told
+enum-told c = search needs
+
+unsegmented-requires : tie.Need-unsegmented-requires
+unsegmented-requires c κs = search needs
+
+enum-known-line : tie.Need-enum-known-line
+enum-known-line c = search needs
+
+broken-requires : tie.Need-broken-requires
+broken-requires c κs = search needs
+
+enum-told-2 : tie.Need-enum-told-2
+enum-told-2 c = search needs
+
+restart-requires : tie.Need-restart-requires
+restart-requires c κs = let s = c .before .before .before .before .before .before .before in (s .pre .0, rw (c .before .before .enum-told2 .given .1) at (s .pre .1 .0))
+
+enum-told-3 : tie.Need-enum-told-3
+enum-told-3 c = search needs
+
+start-requires : tie.Need-start-requires
+start-requires c κs = let s = c .before .before .before .before .before .before .before in (s .pre .0, (rw (c .before .before .enum-told3 .given .1) at (s .pre .1 .1)) refl)
+
+enum-told-4 : tie.Need-enum-told-4
+enum-told-4 c = search needs
+
+finish-requires : tie.Need-finish-requires
+finish-requires c κs = let s = c .before .before .before .before .before .before .before in (s .pre .0, rw (c .before .before .enum-told4 .given .1) at (s .pre .1 .0))
+
+enum-told-5 : tie.Need-enum-told-5
+enum-told-5 c = search needs
+
+go-on-requires : tie.Need-go-on-requires
+go-on-requires c κs = let s = c .before .before .before .before .before .before .before in (s .pre .0, rw (c .before .before .enum-told5 .given .1) at (s .pre .1 .0))
+
+same-length : tie.Need-same-length
+same-length c = search needs
+
+same-length-2 : tie.Need-same-length-2
+same-length-2 c = search needs
+
+returns : tie.Need-returns
+returns c = rw (c .before .before .before .before .before .before .before .enum-told .given .1) (c .before .before .before .before .unsegmented .ensures)
+
+same-length-3 : tie.Need-same-length-3
+same-length-3 c = search needs
+
+same-length-4 : tie.Need-same-length-4
+same-length-4 c = search needs
+
+returns-2 : tie.Need-returns-2
+returns-2 c = rw (c .before .before .before .before .before .before .before .before .line .given .1) (c .before .before .before .before .broken .ensures)
+
+same-length-5 : tie.Need-same-length-5
+same-length-5 c = search needs
+
+same-length-6 : tie.Need-same-length-6
+same-length-6 c = search needs
+
+returns-3 : tie.Need-returns-3
+returns-3 c = rw (c .before .before .before .before .before .before .before .enum-told2 .given .1) (c .before .before .before .before .restart .ensures)
+
+same-length-7 : tie.Need-same-length-7
+same-length-7 c = search needs
+
+same-length-8 : tie.Need-same-length-8
+same-length-8 c = search needs
+
+returns-4 : tie.Need-returns-4
+returns-4 c = rw (c .before .before .before .before .before .before .before .enum-told3 .given .1) (c .before .before .before .before .start .ensures)
+
+same-length-9 : tie.Need-same-length-9
+same-length-9 c = search needs
+
+same-length-10 : tie.Need-same-length-10
+same-length-10 c = search needs
+
+returns-5 : tie.Need-returns-5
+returns-5 c = rw (c .before .before .before .before .before .before .before .enum-told4 .given .1) (c .before .before .before .before .finish .ensures)
+
+same-length-11 : tie.Need-same-length-11
+same-length-11 c = search needs
+
+same-length-12 : tie.Need-same-length-12
+same-length-12 c = search needs
+
+returns-6 : tie.Need-returns-6
+returns-6 c = rw (c .before .before .before .before .before .before .before .enum-told5 .given .1) (c .before .before .before .before .go-on .ensures)
+
+pub carry-out-spec : {M : Type 1} → statement M
+carry-out-spec =
+    tie.close
+    (tie.spec
+    enum-told
+    unsegmented-requires
+    enum-known-line
+    broken-requires
+    enum-told-2
+    restart-requires
+    enum-told-3
+    start-requires
+    enum-told-4
+    finish-requires
+    enum-told-5
+    go-on-requires
+    same-length
+    same-length-2
+    returns
+    same-length-3
+    same-length-4
+    returns-2
+    same-length-5
+    same-length-6
+    returns-3
+    same-length-7
+    same-length-8
+    returns-4
+    same-length-9
+    same-length-10
+    returns-5
+    same-length-11
+    same-length-12
+    returns-6)

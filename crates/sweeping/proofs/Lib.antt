@@ -1,0 +1,2 @@
+pub mod Sweeping
+pub mod Judging
