@@ -25,7 +25,8 @@ use Rattle.rules.specs.declared.Fields.{Fields}
 use Rattle.rules.specs.declared.Found.{Found}
 use Rattle.rules.specs.declared.Line.{Line}
 use Rattle.rules.specs.declared.Received.{Received}
-use Rattle.joining.specs.Arrival.{refusedAs, carriedOut, arrival, Leaves}
+use Rattle.lines.specs.Carried.{carriedOut, Leaves}
+use Rattle.joining.specs.Arrival.{refusedAs, arrival}
 
 pub leaves-as : {o o′ : Reception} {r : Received} {st rp : List ℕ} → o ≡ o′ → Leaves o r st rp → Leaves o′ r st rp
 leaves-as {o} {o′} {r} {st} {rp} e l =

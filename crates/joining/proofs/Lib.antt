@@ -1,3 +1,2 @@
-pub mod Found
-pub mod Reported
+pub mod Address
 pub mod Arriving

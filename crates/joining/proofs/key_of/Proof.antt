@@ -1,4 +1,4 @@
-use Rattle.joining.proofs.Found.{key-is}
+use Rattle.joining.proofs.Address.{key-is}
 use borrow.Author.Needs.{needs}
 use Rattle.joining.proofs.key_of.Statement.{statement}
 use Rattle.joining.proofs.key_of.Tie as tie

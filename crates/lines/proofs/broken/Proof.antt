@@ -1,10 +1,10 @@
 use mathlib.Core.Path.{refl, _∙_}
-use Rattle.joining.proofs.Reported.{one-record}
-use Rattle.joining.specs.Arrival.{carriedOut}
+use Rattle.lines.proofs.Reported.{one-record}
+use Rattle.lines.specs.Carried.{carriedOut}
 use Rattle.rules.specs.Receiving.{effectOf}
 use borrow.Author.Needs.{needs}
-use Rattle.joining.proofs.broken.Statement.{statement}
-use Rattle.joining.proofs.broken.Tie as tie
+use Rattle.lines.proofs.broken.Statement.{statement}
+use Rattle.lines.proofs.broken.Tie as tie
 
 cast-n : tie.Need-cast-n
 cast-n c = search needs

@@ -1,7 +1,7 @@
 use mathlib.Core.Path.{refl}
 use borrow.Author.Needs.{needs}
-use Rattle.joining.proofs.carry_out.Statement.{statement}
-use Rattle.joining.proofs.carry_out.Tie as tie
+use Rattle.lines.proofs.carry_out.Statement.{statement}
+use Rattle.lines.proofs.carry_out.Tie as tie
 
 enum-told : tie.Need-enum-told
 enum-told c = search needs

@@ -1,11 +1,11 @@
 use native.Mathlib.Omega.{arith}
 use mathlib.Core.Path.{refl, _∙_}
-use Rattle.joining.proofs.Reported.{one-record}
-use Rattle.joining.specs.Arrival.{carriedOut}
+use Rattle.lines.proofs.Reported.{one-record}
+use Rattle.lines.specs.Carried.{carriedOut}
 use Rattle.rules.specs.Receiving.{effectOf}
 use borrow.Author.Needs.{needs}
-use Rattle.joining.proofs.restart.Statement.{statement}
-use Rattle.joining.proofs.restart.Tie as tie
+use Rattle.lines.proofs.restart.Statement.{statement}
+use Rattle.lines.proofs.restart.Tie as tie
 
 record-with-requires : tie.Need-record-with-requires
 record-with-requires c κs = search needs

@@ -1,8 +1,8 @@
 use borrow.Author.Tests.{eq-eqb, ne-eqb, lt-ltb, le-ltb, not-false}
 use Rattle.rules.specs.Receiving.{lineOf}
 use borrow.Author.Needs.{needs}
-use Rattle.joining.proofs.line_of.Statement.{statement}
-use Rattle.joining.proofs.line_of.Tie as tie
+use Rattle.lines.proofs.line_of.Statement.{statement}
+use Rattle.lines.proofs.line_of.Tie as tie
 
 returns : tie.Need-returns
 unfolding lineOf

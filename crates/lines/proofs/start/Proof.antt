@@ -1,11 +1,11 @@
 use native.Mathlib.Omega.{arith}
 use mathlib.Core.Path.{refl, _∙_}
-use Rattle.joining.proofs.Reported.{no-record}
-use Rattle.joining.specs.Arrival.{carriedOut}
+use Rattle.lines.proofs.Reported.{no-record}
+use Rattle.lines.specs.Carried.{carriedOut}
 use Rattle.rules.specs.Receiving.{effectOf}
 use borrow.Author.Needs.{needs}
-use Rattle.joining.proofs.start.Statement.{statement}
-use Rattle.joining.proofs.start.Tie as tie
+use Rattle.lines.proofs.start.Statement.{statement}
+use Rattle.lines.proofs.start.Tie as tie
 
 number-of-requires : tie.Need-number-of-requires
 number-of-requires c κs = search needs

@@ -1,7 +1,6 @@
--- A place that was found, and a key's address.
+-- A key's originating address, zero filled.
 use Prim.Native.Nat.{ℕ, _+_, _-_, _≤_, _<_}
 use mathlib.Core.Path.{_≡_, refl, sym, ap, _∙_}
-use mathlib.Core.Bool.{true}
 use mathlib.Core.List.{List, [], _∷_, _++_}
 use native.Mathlib.Nat.{zero-add}
 use native.Mathlib.Omega.{arith}
@@ -9,17 +8,11 @@ use lib.ListN.{length, take, drop, replicate, length-replicate}
 use lib.Seq.{drop-append-seam, ext-getD}
 use Rattle.octets.specs.Splice.{splice}
 use Rattle.octets.proofs.Splice.{splice-is}
-use Rattle.rules.specs.Numbers.{placeCount, addressMost}
+use Rattle.rules.specs.Numbers.{addressMost}
 use Rattle.rules.specs.Records.{zeroFilled}
 use Rattle.rules.specs.Receiving.{keyOf}
 use Rattle.rules.specs.declared.Key.{Key}
 use Rattle.rules.specs.declared.Fields.{Fields}
-use Rattle.rules.specs.declared.Found.{Found}
-use Rattle.rules.specs.declared.Found.the-variants.{At, Nothing}
-use Rattle.table.specs.Inside.{Inside}
-
-pub inside-at : (f : Found) (i : ℕ) → f ≡ At i → Inside f → i < placeCount
-inside-at f i e h = (rw e at h) refl
 
 drop-zeros : (n m : ℕ) → drop n (replicate {A = ℕ} (n + m) 0) ≡ replicate m 0
 drop-zeros n m = ap (λ (l : List ℕ). drop n l) (sym (lib.ListN.replicate-append-replicate n m 0)) ∙ lib.Seq.drop-at (replicate n 0) (replicate m 0) n (length-replicate n 0)

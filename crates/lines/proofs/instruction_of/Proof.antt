@@ -1,7 +1,7 @@
 use mathlib.Core.Path.{sym, _∙_}
 use borrow.Author.Needs.{needs}
-use Rattle.joining.proofs.instruction_of.Statement.{statement}
-use Rattle.joining.proofs.instruction_of.Tie as tie
+use Rattle.lines.proofs.instruction_of.Statement.{statement}
+use Rattle.lines.proofs.instruction_of.Tie as tie
 
 is-at-requires : tie.Need-is-at-requires
 is-at-requires c κs = search needs

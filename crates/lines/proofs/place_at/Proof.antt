@@ -1,9 +1,9 @@
 use mathlib.Core.Path.{sym}
-use Rattle.joining.proofs.Found.{inside-at}
+use Rattle.lines.proofs.Found.{inside-at}
 use native.Mathlib.Omega.{arith}
 use borrow.Author.Needs.{needs}
-use Rattle.joining.proofs.place_at.Statement.{statement}
-use Rattle.joining.proofs.place_at.Tie as tie
+use Rattle.lines.proofs.place_at.Statement.{statement}
+use Rattle.lines.proofs.place_at.Tie as tie
 
 enum-known-place : tie.Need-enum-known-place
 enum-known-place c = search needs

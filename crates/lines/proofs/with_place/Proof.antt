@@ -1,8 +1,8 @@
-use Rattle.joining.proofs.Found.{inside-at}
+use Rattle.lines.proofs.Found.{inside-at}
 use native.Mathlib.Omega.{arith}
 use borrow.Author.Needs.{needs}
-use Rattle.joining.proofs.with_place.Statement.{statement}
-use Rattle.joining.proofs.with_place.Tie as tie
+use Rattle.lines.proofs.with_place.Statement.{statement}
+use Rattle.lines.proofs.with_place.Tie as tie
 
 enum-known-place : tie.Need-enum-known-place
 enum-known-place c = search needs

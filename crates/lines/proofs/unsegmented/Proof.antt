@@ -1,10 +1,10 @@
 use mathlib.Core.Path.{refl}
-use Rattle.joining.proofs.Reported.{one-record}
-use Rattle.joining.specs.Arrival.{carriedOut}
+use Rattle.lines.proofs.Reported.{one-record}
+use Rattle.lines.specs.Carried.{carriedOut}
 use Rattle.rules.specs.Receiving.{effectOf}
 use borrow.Author.Needs.{needs}
-use Rattle.joining.proofs.unsegmented.Statement.{statement}
-use Rattle.joining.proofs.unsegmented.Tie as tie
+use Rattle.lines.proofs.unsegmented.Statement.{statement}
+use Rattle.lines.proofs.unsegmented.Tie as tie
 
 cast-record-with : tie.Need-cast-record-with
 cast-record-with c = search needs
