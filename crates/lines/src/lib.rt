@@ -18,7 +18,7 @@ ghost use lib.ListN.{length};
 ghost use Rattle.rules.specs.General.{if_then_else_};
 ghost use Rattle.rules.specs.Numbers.{stretchLength, storeLeast, placeCount};
 ghost use Rattle.rules.specs.Places.{isAt, numberOf, placeAt, putPlace};
-ghost use Rattle.rules.specs.Receiving.{lineOf, isStart, openPlace, begun, longer, recordWith, saveAt, withPlaces};
+ghost use Rattle.rules.specs.Receiving.{lineOf, isStart, openPlace, begun, recordWith, saveAt, withPlaces};
 ghost use Rattle.table.specs.Inside.{Inside};
 ghost use Rattle.lines.specs.Carried.{carriedOut, Leaves, Tells, Ready};
 
@@ -182,24 +182,6 @@ fn begun_place(t: Table, key: Key, f: Fields, n: usize) -> Place
     open_place(key, remaining, heading.instruction, 1, n as u16, t.clock)
 }
 
-// The place of a sequence that goes on with this segment, of n octets.
-fn longer_place(p: Place, key: Key, f: Fields, n: usize) -> Place
-    requires { ⌜ (n ≤ 255) × ((p .octets ≤ 2048) × (p .segments ≤ 9)) ⌝ }
-    ensures { λ r. ⌜ r ≡ longer p key (f .heading) n ⌝ }
-{
-    let heading = f.heading;
-    let remaining = heading.remaining;
-    let octets = p.octets + (n as u16);
-    open_place(
-        key,
-        remaining,
-        p.instruction,
-        p.segments + 1,
-        octets,
-        p.start,
-    )
-}
-
 // An unsegmented parameter is delivered at once and touches no place.
 fn unsegmented(
     t: Table,
@@ -346,7 +328,17 @@ fn go_on(
     let n = octets.len();
     let saved = p.octets as usize;
     save_at(store, number, saved, octets);
-    let next = longer_place(p, key, f, n);
+    let heading = f.heading;
+    let remaining = heading.remaining;
+    let total = (saved + n) as u16;
+    let next = open_place(
+        key,
+        remaining,
+        p.instruction,
+        p.segments + 1,
+        total,
+        p.start,
+    );
     received(with_place(t, place, next), Decision::Saved(number), 0)
 }
 

@@ -235,12 +235,12 @@ pub fn lowest_free(places: [Place; 16]) -> Found
     ensures { λ r. ⌜ r ≡ lowestFree places ⌝ }
     ensures { λ r. ⌜ Inside r ⌝ }
 {
-    let mut i = 0;
-    while i < 16 {
-        if places[i].mark == 0 {
-            return Found::At(i);
+    let mut k = 0;
+    while k < 16 {
+        if places[k].mark == 0 {
+            return Found::At(k);
         }
-        i += 1;
+        k += 1;
     }
     Found::Nothing
 }

@@ -10,10 +10,10 @@ use Rattle.table.proofs.lowest_free.Statement.{statement}
 use Rattle.table.proofs.lowest_free.Tie as tie
 
 abbrev Inv-loop : tie.InvT-loop
-Inv-loop places i₀ i = firstFrom isFree places 0 ≡ firstFrom isFree (drop i places) i
+Inv-loop places k₀ k = firstFrom isFree places 0 ≡ firstFrom isFree (drop k places) k
 
 abbrev μ-loop : tie.MeasureT-loop
-μ-loop places i₀ i = 16 - i
+μ-loop places k₀ k = 16 - k
 
 loop-holds : tie.Need-loop-holds Inv-loop μ-loop
 loop-holds c = refl
@@ -27,10 +27,10 @@ element-copy-out-if1 c = omega arith
 returns : tie.Need-returns Inv-loop μ-loop
 returns c =
     let l = c .before .before in
-    (first-found isFree (l .before .args .t1) (l .loop .i) _ (l .loop .inv) (omega arith) (eq-eqb _ _ (c .if1 .taken)), λ e. omega arith)
+    (first-found isFree (l .before .args .t1) (l .loop .k) _ (l .loop .inv) (omega arith) (eq-eqb _ _ (c .if1 .taken)), λ e. omega arith)
 
-add-i : tie.Need-add-i Inv-loop μ-loop
-add-i c = omega arith
+add-k : tie.Need-add-k Inv-loop μ-loop
+add-k c = omega arith
 
 loop-less : tie.Need-loop-less Inv-loop μ-loop
 loop-less c = omega arith
@@ -38,12 +38,12 @@ loop-less c = omega arith
 loop-again : tie.Need-loop-again Inv-loop μ-loop
 loop-again c =
     let l = c .before .before in
-    first-goes isFree (l .before .args .t1) (l .loop .i) _ (l .loop .inv) (omega arith) (ne-eqb _ _ (c .if1 .left))
+    first-goes isFree (l .before .args .t1) (l .loop .k) _ (l .loop .inv) (omega arith) (ne-eqb _ _ (c .if1 .left))
 
 returns-2 : tie.Need-returns-2 Inv-loop μ-loop
 returns-2 c =
     let l = c .before in
-    (first-ends isFree (l .before .args .t1) (l .loop .i) _ (l .loop .inv) (omega arith), λ e. absurd (true≢false (sym e)))
+    (first-ends isFree (l .before .args .t1) (l .loop .k) _ (l .loop .inv) (omega arith), λ e. absurd (true≢false (sym e)))
 
 pub lowest-free-spec : {M : Type 1} → statement M
 lowest-free-spec =
@@ -55,7 +55,7 @@ lowest-free-spec =
     mul-if1
     element-copy-out-if1
     returns
-    add-i
+    add-k
     loop-less
     loop-again
     returns-2)
