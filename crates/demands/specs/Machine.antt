@@ -1,0 +1,70 @@
+-- What answers calls: any machine, and the one that the rules are.
+use Prim.Native.Nat.{ℕ, _<_, _^_}
+use mathlib.Core.Path.{_≡_}
+use mathlib.Core.Bool.{Bool, true, false}
+use mathlib.Core.List.{List, [], _∷_}
+use lib.ListN.{length}
+use Rattle.rules.specs.Numbers.{placeCount, addressMost}
+use Rattle.rules.specs.Refusals.{Check}
+use Rattle.rules.specs.Receiving.{segmentChecks}
+use Rattle.rules.specs.Delivery.{delivery}
+use Rattle.rules.specs.Sweep.{clockChecks, releaseChecks}
+use Rattle.rules.specs.Opening.{openingChecks}
+use Rattle.rules.specs.Sending.{sendingChecks}
+use Rattle.rules.specs.Calls.{State, Call, Opens, Arrives, Ticks, Releases, Sends, Outcome, step}
+use Rattle.rules.specs.declared.Place.{Place}
+use Rattle.rules.specs.declared.Table.{Table}
+use Rattle.rules.specs.declared.Decision.{Decision}
+
+-- a step for every call, and the delivery that is asked for with a decision, a parameter and a store
+pub record Machine : Type 0 where
+  pub step : State → Call → Outcome
+  pub deliver : Decision → List ℕ → List ℕ → List ℕ
+
+abbrev pub ours : Machine
+ours = record { step = step; deliver = delivery }
+
+-- the checks of a call, in the paper's order
+abbrev pub checksOf : State → Call → List Check
+checksOf st (Opens registry timer time) = openingChecks registry timer
+checksOf st (Arrives association s report) = segmentChecks (st .table) (st .store) report association s
+checksOf st (Ticks time report) = clockChecks (st .table) report time
+checksOf st (Releases association report) = releaseChecks (st .table) report
+checksOf st (Sends q o d whole area) = sendingChecks (st .table) q o d whole area
+
+-- the area that a call lends beside the store
+abbrev pub lentOf : Call → List ℕ
+lentOf (Opens registry timer time) = []
+lentOf (Arrives association s report) = report
+lentOf (Ticks time report) = report
+lentOf (Releases association report) = report
+lentOf (Sends q o d whole area) = area
+
+abbrev pub isOpening : Call → Bool
+isOpening (Opens registry timer time) = true
+isOpening (Arrives association s report) = false
+isOpening (Ticks time report) = false
+isOpening (Releases association report) = false
+isOpening (Sends q o d whole area) = false
+
+-- a statement of every element of a list
+abbrev pub All : {A : Type 0} → (A → Type 0) → List A → Type 0
+All P [] = Unit {0}
+All P (x ∷ l) = P x × All P l
+
+-- what the types of a call's numbers say; no opening
+abbrev pub InRange : Call → Type 0
+InRange (Opens registry timer time) = ⊥
+InRange (Arrives association s report) = association < 2 ^ 16
+InRange (Ticks time report) = time < 2 ^ 32
+InRange (Releases association report) = association < 2 ^ 16
+InRange (Sends q o d whole area) = Unit {0}
+
+-- what the types of a table's fields say: 16 places, each with an address of 20 octets and an association of 16 bits
+pub record TypedPlace (p : Place) : Type 0 where
+  pub address : length (p .key .address) ≡ addressMost
+  pub association : p .key .association < 2 ^ 16
+
+pub record Typed (t : Table) : Type 0 where
+  pub count : length (t .places) ≡ placeCount
+  pub each : All TypedPlace (t .places)
