@@ -1,13 +1,15 @@
 -- A record's octets are 32 and read back as the record.
-use Prim.Native.Nat.{ℕ, _<_, _^_}
-use mathlib.Core.Path.{_≡_, refl}
-use mathlib.Core.List.{List}
+use Prim.Native.Nat.{ℕ, _+_, _*_, _≤_, _<_, _^_}
+use mathlib.Core.Path.{_≡_, refl, _∙_}
+use mathlib.Core.List.{List, [], _∷_, _++_, append-assoc}
 use native.Mathlib.Omega.{arith}
-use lib.ListN.{length, take}
-use lib.Seq.{take-all}
+use lib.ListN.{length, take, drop, length-append}
+use lib.Seq.{take-all, take-at, drop-at}
+use Rattle.octets.specs.Splice.{splice}
+use Rattle.octets.proofs.Splice.{splice-is}
 use Rattle.octets.proofs.Number.{number-back}
 use Rattle.rules.specs.Numbers.{addressMost}
-use Rattle.rules.specs.Records.{recordLength, recordOctets, recordFrom}
+use Rattle.rules.specs.Records.{recordLength, recordOctets, recordFrom, recordsOctets, recordsFrom}
 use Rattle.rules.specs.declared.Record.{Record}
 
 -- what the types of a record's fields say: numbers of two octets, and an address of 20
@@ -44,3 +46,28 @@ record-back r h =
     (number-back 2 (r .key .association) (h .association))
     (number-back 2 (r .key .context .0) (h .context))
     (number-back 2 (r .octets) (h .octets))
+
+-- every one of the records fits
+abbrev pub AllFit : List Record → Type 0
+AllFit [] = Unit {0}
+AllFit (r ∷ rs) = Fits r × AllFit rs
+
+pub records-length : (rs : List Record) → AllFit rs → length (recordsOctets rs) ≡ recordLength * length rs
+records-length [] h = refl
+records-length (r ∷ rs) h =
+    let e = record-length r (h .0 .address) in
+    let i = records-length rs (h .1) in
+    length-append (recordOctets r) (recordsOctets rs) ∙ omega arith
+
+from-octets : (rs : List Record) (rest : List ℕ) → AllFit rs → recordsFrom (length rs) (recordsOctets rs ++ rest) ≡ rs
+from-octets [] rest h = refl
+from-octets (r ∷ rs) rest h =
+    let e = record-length r (h .0 .address) in
+    rw (append-assoc (recordOctets r) (recordsOctets rs) rest, take-at (recordOctets r) (recordsOctets rs ++ rest) recordLength e, drop-at (recordOctets r) (recordsOctets rs ++ rest) recordLength e, record-back r (h .0), from-octets rs rest (h .1))
+
+-- records at the front of an area that holds them are read back
+pub records-back : (rs : List Record) (report : List ℕ) → AllFit rs → recordLength * length rs ≤ length report
+    → recordsFrom (length rs) (splice report 0 (recordsOctets rs)) ≡ rs
+records-back rs report h g =
+    let l = records-length rs h in
+    rw (splice-is report 0 (recordsOctets rs) (omega arith)) (from-octets rs (drop (0 + length (recordsOctets rs)) report) h)
