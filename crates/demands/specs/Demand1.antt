@@ -1,7 +1,7 @@
 -- DEMAND 1. Every call ends with an answer for every input. Bad input gets a numbered refusal, and a refused call changes neither the table nor any lent octet.
 use Prim.Native.Nat.{ℕ}
 use mathlib.Core.Path.{_≡_}
-use mathlib.Core.Bool.{Bool, true, false}
+use mathlib.Core.Bool.{false}
 use mathlib.Core.List.{List, []}
 use Rattle.rules.specs.Refusals.{accepted, first}
 use Rattle.rules.specs.Opening.{unopened}

@@ -1,7 +1,6 @@
 -- DEMAND 3. From one opening, refused or not, until the next, through any calls made with the table and store as the last call left them.
-use Prim.Native.Nat.{ℕ, suc, _+_}
+use Prim.Native.Nat.{ℕ, suc}
 use mathlib.Core.Path.{_≡_}
-use mathlib.Core.Bool.{Bool, true, false}
 use mathlib.Core.List.{List, [], _∷_, _++_}
 use lib.Dec.{eqb}
 use lib.ListN.{length, take, drop}
@@ -9,10 +8,9 @@ use Rattle.rules.specs.General.{if_then_else_}
 use Rattle.rules.specs.Numbers.{placeStart}
 use Rattle.rules.specs.Records.{delivered}
 use Rattle.rules.specs.Places.{holds}
-use Rattle.rules.specs.Calls.{State, Call, Opens, Arrives, Ticks, Releases, Sends, Answer, Outcome}
+use Rattle.rules.specs.Calls.{State, Call, Opens, Arrives, Ticks, Releases, Sends}
 use Rattle.rules.specs.declared.Key.{Key}
 use Rattle.rules.specs.declared.Place.{Place}
-use Rattle.rules.specs.declared.Record.{Record}
 use Rattle.demands.specs.Machine.{Machine, InRange, All}
 use Rattle.demands.specs.History.{Segment, Told, Cover, joined, after, covers, beginning}
 

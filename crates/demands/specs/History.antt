@@ -1,5 +1,5 @@
 -- What was accepted and is not covered yet, told from the opening's octets, the calls and their answers alone: it never sees the table or the store.
-use Prim.Native.Nat.{ℕ, zero, suc, _+_}
+use Prim.Native.Nat.{ℕ, _+_}
 use mathlib.Core.Bool.{Bool, true, false, not, _&&_}
 use mathlib.Core.List.{List, [], _∷_, _++_}
 use lib.Dec.{eqb, leb}

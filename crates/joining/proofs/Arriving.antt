@@ -6,12 +6,12 @@ use mathlib.Core.List.{List, [], _∷_, _++_}
 use lib.Dec.{ltb}
 use lib.ListN.{length, drop}
 use Rattle.rules.specs.Numbers.{storeLeast, parameterMost, addressMost}
-use Rattle.rules.specs.Refusals.{Check, _when_, accepted, first, judged}
+use Rattle.rules.specs.Refusals.{Check, _when_, accepted, judged}
 use Rattle.rules.specs.Layout.{fieldsOf, readingChecks}
 use Rattle.rules.specs.Records.{recordLength}
 use Rattle.rules.specs.Places.{placeOf, lowestFree, isAt, placeAt}
 use Rattle.rules.specs.Soundness.{sound}
-use Rattle.rules.specs.Receiving.{keyOf, informationOf, lineOf, lineAt, effectOf, isStart, Reception, segmentChecks, segment}
+use Rattle.rules.specs.Receiving.{keyOf, informationOf, lineOf, lineAt, isStart, Reception, segmentChecks, segment}
 use Rattle.rules.specs.Promises.{OfSegment}
 use Rattle.rules.proofs.Refusals.{judged-append, judged-then}
 use Rattle.rules.proofs.Reading.{parameter-short, address-short}

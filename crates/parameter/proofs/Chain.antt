@@ -1,7 +1,7 @@
 -- A reader's answer is that of the readers that it calls, one after the other.
 use Prim.Native.Nat.{ℕ, _+_, _*_, _%_}
 use mathlib.Core.Path.{_≡_, refl, sym, ap, _∙_}
-use mathlib.Core.Bool.{Bool, true, false, _&&_, Bool·beq}
+use mathlib.Core.Bool.{Bool, true, false, Bool·beq}
 use native.Mathlib.Omega.{arith}
 use mathlib.Core.List.{List, [], _∷_, _++_}
 use lib.Dec.{eqb, leb, ltb}
@@ -14,7 +14,6 @@ use Rattle.rules.specs.Layout.{octet, isAlone, isNew, remainingOf, pastAddress,
 use Rattle.rules.proofs.Refusals.{judged-append, judged-then}
 use Rattle.rules.specs.declared.Context.{Context}
 use Rattle.rules.specs.declared.Entry.{Entry}
-use Rattle.rules.specs.declared.Heading.{Heading}
 use Rattle.parameter.specs.Reading.{lastField, contextField, sequenceField, addressField, addressesField, headingFrom, afterAddresses, reading}
 use Rattle.parameter.specs.declared.Sequence.{Sequence}
 use Rattle.parameter.specs.declared.LastField.{LastField}

@@ -1,14 +1,14 @@
 -- What a place of a sound table holds.
 use Prim.Native.Nat.{ℕ, zero, suc, _+_, _≤_, _<_}
-use mathlib.Core.Path.{_≡_, refl, sym, _∙_}
-use mathlib.Core.Bool.{Bool, true, false, not, _&&_, _||_, and-eq-true-iff}
+use mathlib.Core.Path.{_≡_, refl}
+use mathlib.Core.Bool.{Bool, true, false, _||_, and-eq-true-iff}
 use mathlib.Core.List.{List, [], _∷_}
 use native.Mathlib.Omega.{arith}
 use borrow.Author.Tests.{leb-true, eqb-true, ne-eqb}
 use lib.ListN.{length, getD}
 use Rattle.rules.specs.General.{every}
 use Rattle.rules.specs.Places.{noPlace, isOpen, isFree, holds, placeOf, placeAt}
-use Rattle.rules.specs.Soundness.{openSound, freeSound, placeSound, sound}
+use Rattle.rules.specs.Soundness.{openSound, placeSound, sound}
 use Rattle.rules.specs.declared.Entry.{Entry}
 use Rattle.rules.specs.declared.Key.{Key}
 use Rattle.rules.specs.declared.Place.{Place}

@@ -2,9 +2,12 @@
 use Prim.Native.Nat.{ℕ}
 use mathlib.Core.Path.{_≡_, refl}
 use mathlib.Core.Logic.{_↔_}
-use mathlib.Core.Bool.{Bool, true, false, _&&_, and-eq-true-iff}
+use mathlib.Core.Bool.{Bool, true, _&&_, and-eq-true-iff, true≢false}
 use mathlib.Core.List.{List, [], _∷_}
 use lib.Dec.{eqb}
+use lib.ListN.{length, take}
+use Rattle.octets.specs.Number.{number}
+use Rattle.rules.specs.Records.{zeroFilled}
 use borrow.Author.Tests.{eqb-true, eq-eqb}
 use Rattle.rules.specs.Places.{sameOctets, sameKey}
 use Rattle.rules.specs.declared.Key.{Key}
@@ -54,3 +57,30 @@ same-self a =
 
 pub same-key : (a b : Key) → (sameKey a b ≡ true) ↔ (a ≡ b)
 same-key a b = (same-equal a b, λ e. rw e (same-self b))
+
+-- wrong comparisons, refuted. By number: 00 07 and 07 would be one node. By the zero-filled octets alone: 07 and 07 00 would be one
+abbrev asNumbers : Key → Key → Bool
+asNumbers a b =
+    eqb (a .association) (b .association)
+    && eqb (a .context .0) (b .context .0)
+    && eqb (a .reference .0) (b .reference .0)
+    && eqb (number (take (a .length) (a .address))) (number (take (b .length) (b .address)))
+
+abbrev withoutLength : Key → Key → Bool
+withoutLength a b =
+    eqb (a .association) (b .association)
+    && eqb (a .context .0) (b .context .0)
+    && eqb (a .reference .0) (b .reference .0)
+    && sameOctets (a .address) (b .address)
+
+-- a key of one association, context and reference
+abbrev from : List ℕ → Key
+from address = keyFrom (zeroFilled address) 9 4 5 (length address)
+
+pub not-as-numbers : ((a b : Key) → asNumbers a b ≡ sameKey a b) → ⊥
+unfolding sameKey
+not-as-numbers h = true≢false (h (from (0 ∷ 7 ∷ [])) (from (7 ∷ [])))
+
+pub not-without-length : ((a b : Key) → withoutLength a b ≡ sameKey a b) → ⊥
+unfolding sameKey
+not-without-length h = true≢false (h (from (7 ∷ [])) (from (7 ∷ 0 ∷ [])))

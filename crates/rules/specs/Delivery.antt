@@ -1,12 +1,11 @@
 -- Section 'Receiving', the delivery: a part of the parameter or a part of the store, according to the answer.
 use Prim.Native.Nat.{ℕ, _+_}
-use mathlib.Core.Bool.{Bool, _&&_}
+use mathlib.Core.Bool.{_&&_}
 use mathlib.Core.List.{List, []}
 use lib.Dec.{leb, ltb}
 use lib.ListN.{length, take, drop}
 use Rattle.rules.specs.General.{if_then_else_}
 use Rattle.rules.specs.Numbers.{placeCount, stretchLength, placeStart}
-use Rattle.rules.specs.declared.Part.{Part}
 use Rattle.rules.specs.declared.Part.the-variants.{OfParameter, OfStore}
 use Rattle.rules.specs.declared.Decision.{Decision}
 use Rattle.rules.specs.declared.Decision.the-variants.{Refused, Saved, Delivered, Lost}

@@ -1,6 +1,6 @@
 -- Section 'Receiving', the opening.
 use Prim.Native.Nat.{ℕ, _-_}
-use mathlib.Core.Bool.{Bool, not}
+use mathlib.Core.Bool.{not}
 use mathlib.Core.List.{List, [], _∷_, _++_}
 use lib.ListN.{length, replicate}
 use Rattle.rules.specs.Numbers.{placeCount, entriesMost, timerInRange}

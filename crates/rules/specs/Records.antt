@@ -4,7 +4,6 @@ use mathlib.Core.List.{List, [], _∷_, _++_}
 use lib.ListN.{length, take, drop, getD, replicate}
 use Rattle.octets.specs.Number.{number, bigEndian}
 use Rattle.rules.specs.Numbers.{addressMost}
-use Rattle.rules.specs.declared.Key.{Key}
 use Rattle.rules.specs.declared.Record.{Record}
 
 abbrev pub delivered : ℕ

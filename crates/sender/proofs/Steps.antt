@@ -1,11 +1,11 @@
 -- The sender's steps, one after the other, are the rule of sending.
 use Prim.Native.Nat.{ℕ, zero, suc, _+_, _-_, _≤_, _<_}
 use mathlib.Core.Path.{_≡_, refl, sym, ap, _∙_}
-use mathlib.Core.Bool.{Bool, true, false, not, _&&_, _||_, and-eq-true-iff, true≢false}
+use mathlib.Core.Bool.{Bool, true, false, and-eq-true-iff, true≢false}
 use mathlib.Core.List.{List, [], _∷_, _++_}
 use native.Mathlib.Omega.{arith}
 use borrow.Author.Tests.{ltb-false, eqb-false, not-true, not-false, lt-ltb, le-ltb}
-use lib.Dec.{eqb, leb, ltb}
+use lib.Dec.{eqb, ltb}
 use lib.ListN.{length, take, drop, length-append, length-take, length-drop}
 use lib.Seq.{take-all}
 use Rattle.octets.specs.Splice.{splice}
@@ -14,8 +14,8 @@ use Rattle.rules.specs.Refusals.{Check, _when_, accepted, first, judged}
 use Rattle.rules.specs.Registry.{kindOf}
 use Rattle.rules.specs.Layout.{isAlone, hasAddresses, contextOctets, sequenceOctets, addressesOctets, parameterOctets}
 use Rattle.rules.specs.Soundness.{sound}
-use Rattle.rules.specs.Sending.{Sending, headerLength, isSegmented, firstCarries, laterCarries, stretchOf, carried, countOf, headingFor, segmentOctets, sendingChecks, sending}
-use Rattle.rules.proofs.Refusals.{judged-append, judged-then, judged-first, judged-none, first-accepted}
+use Rattle.rules.specs.Sending.{Sending, headerLength, isSegmented, carried, countOf, segmentOctets, sendingChecks, sending}
+use Rattle.rules.proofs.Refusals.{judged-append, judged-then, judged-first, first-accepted}
 use Rattle.rules.proofs.Cutting.{neither, kind-known, parameter-length}
 use Rattle.rules.specs.declared.Table.{Table}
 use Rattle.rules.specs.declared.Heading.{Heading}
@@ -23,7 +23,7 @@ use Rattle.rules.specs.declared.Request.{Request}
 use Rattle.rules.specs.declared.Sent.{Sent}
 use Rattle.rules.specs.Promises.{OfSending}
 use Rattle.parameter.specs.Writing.{Writable}
-use Rattle.sender.specs.Plan.{requestChecks, headerFor, cutChecks, stretchFrom, stretchSize, pieceOf, planOf, Possible, headingWith, octetsWith, refusedAs, emitted, Emitted, Ready}
+use Rattle.sender.specs.Plan.{requestChecks, headerFor, cutChecks, pieceOf, planOf, headingWith, octetsWith, refusedAs, emitted, Emitted, Ready}
 use Rattle.sender.specs.declared.Piece.{Piece}
 use Rattle.sender.specs.declared.Plan.{Plan}
 use Rattle.sender.specs.declared.Plan.the-variants.{Cut, NoCut}

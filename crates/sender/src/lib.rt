@@ -9,7 +9,6 @@ use rules::Table;
 ghost use mathlib.Core.Path.{_≡_};
 ghost use Prim.Native.Nat.{_+_, _-_, _≤_, _<_};
 ghost use lib.Dec.{ltb};
-ghost use lib.ListN.{length};
 ghost use Rattle.rules.specs.General.{if_then_else_};
 ghost use Rattle.rules.specs.Refusals.{first};
 ghost use Rattle.rules.specs.Promises.{OfSending};

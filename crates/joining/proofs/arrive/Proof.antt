@@ -1,13 +1,12 @@
 use native.Mathlib.Omega.{arith}
-use mathlib.Core.Path.{_≡_, refl, ap, sym, _∙_}
+use mathlib.Core.Path.{_≡_, refl, ap, _∙_}
 use Prim.Native.Nat.{_≤_}
 use denote.Ref.{now}
 use lib.ListN.{length, length-drop}
 use borrow.Author.Tests.{not-false}
 use Rattle.rules.specs.Places.{isAt}
 use Rattle.rules.specs.Receiving.{lineOf}
-use Rattle.rules.proofs.Held.{Held, held}
-use Rattle.rules.specs.declared.Place.{Place}
+use Rattle.rules.proofs.Held.{held}
 use Rattle.joining.proofs.Arriving.{leaves-as, is-full, has-room}
 use borrow.Author.Needs.{needs}
 use Rattle.joining.proofs.arrive.Statement.{statement}

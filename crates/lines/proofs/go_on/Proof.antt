@@ -1,4 +1,4 @@
-use mathlib.Core.Path.{refl, _∙_}
+use mathlib.Core.Path.{_∙_}
 use Rattle.lines.proofs.Reported.{no-record}
 use Rattle.lines.specs.Carried.{carriedOut}
 use Rattle.rules.specs.Receiving.{effectOf}

@@ -1,4 +1,3 @@
-use mathlib.Core.Path.{sym}
 use Rattle.lines.proofs.Found.{inside-at}
 use native.Mathlib.Omega.{arith}
 use borrow.Author.Needs.{needs}

@@ -1,5 +1,5 @@
 use native.Mathlib.Omega.{arith}
-use mathlib.Core.Path.{refl, _∙_}
+use mathlib.Core.Path.{_∙_}
 use Rattle.lines.proofs.Reported.{one-record}
 use Rattle.lines.specs.Carried.{carriedOut}
 use Rattle.rules.specs.Receiving.{effectOf}

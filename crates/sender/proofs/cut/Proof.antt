@@ -1,5 +1,4 @@
 use mathlib.Core.Path.{refl, _∙_}
-use mathlib.Core.Bool.{true, false}
 use borrow.Author.Tests.{lt-ltb, le-ltb, le-leb, lt-leb}
 use Rattle.sender.specs.Plan.{planOf, segmentsPlan}
 use native.Mathlib.Omega.{arith}

@@ -1,6 +1,5 @@
-use Prim.Native.Nat.{_+_, _-_, _/_}
-use mathlib.Core.Path.{refl, _∙_}
-use mathlib.Core.Bool.{true, false, true≢false}
+use Prim.Native.Nat.{_+_, _-_}
+use mathlib.Core.Bool.{true≢false}
 use native.Mathlib.Nat.{div-le-self}
 use borrow.Author.Tests.{lt-ltb, le-ltb, le-leb, lt-leb}
 use Rattle.sender.specs.Plan.{segmentsPlan}

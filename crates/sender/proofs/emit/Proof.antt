@@ -1,5 +1,4 @@
-use mathlib.Core.Path.{_≡_, _∙_, sym, ap}
-use Prim.Native.Nat.{_+_, _≤_}
+use mathlib.Core.Path.{_∙_, ap}
 use lib.ListN.{length}
 use Rattle.sender.proofs.Steps.{writable, total, emit-refused, emit-done, stretch-short}
 use Rattle.sender.specs.Plan.{octetsWith}

@@ -1,6 +1,4 @@
 use mathlib.Core.Path.{_≡_, sym, _∙_}
-use Prim.Native.Nat.{ℕ}
-use mathlib.Core.Bool.{Bool}
 use lib.ListN.{length}
 use Rattle.sender.proofs.Steps.{Asked, asked, context-fits, header-is, not-asked, not-cut, is-cut}
 use Rattle.rules.specs.Sending.{headerLength}

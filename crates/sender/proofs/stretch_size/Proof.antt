@@ -1,6 +1,5 @@
 use mathlib.Core.Path.{sym}
 use Rattle.sender.proofs.Stretches.{size-later}
-use borrow.Author.Needs.{needs}
 use Rattle.sender.proofs.stretch_size.Statement.{statement}
 use Rattle.sender.proofs.stretch_size.Tie as tie
 
