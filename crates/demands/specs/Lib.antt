@@ -5,3 +5,4 @@ pub mod History
 pub mod Demand3
 pub mod Timer
 pub mod Demand2
+pub mod Bridge
