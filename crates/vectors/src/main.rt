@@ -1,0 +1,157 @@
+// The paper's examples, M and the rest, run by the compiled calls. What is printed is held to the file stdout.
+use libc::STDOUT_FILENO;
+use rules::Context;
+use rules::Reference;
+use rules::Request;
+use rules::Table;
+
+fn number(n: u64) {
+    io::write_all(STDOUT_FILENO, b" ");
+    io::print_decimal(STDOUT_FILENO, n);
+}
+
+fn octet(x: u8) {
+    io::print_hex(STDOUT_FILENO, x as u64, 2);
+}
+
+// Octets in hexadecimal, or a dash where there are none.
+fn octets(s: &[u8]) {
+    io::write_all(STDOUT_FILENO, b" ");
+    if s.len() == 0 {
+        io::write_all(STDOUT_FILENO, b"-");
+    }
+    let mut i = 0;
+    while i < s.len() {
+        octet(s[i]);
+        i += 1;
+    }
+}
+
+// Registry 01 00 03, 02 00 04; T 100.
+fn fresh(clock: u32) -> Table {
+    let r = table::opening(b"\x01\x00\x03\x02\x00\x04", 100, clock);
+    r.table
+}
+
+// A segment: its refusal, its records, the first 12 octets of its record, and how many octets it delivers, with the first of them.
+fn segment(t: Table, store: &mut [u8], s: &[u8]) -> Table {
+    let mut report = [0u8; 32];
+    let r = receiver::segment(t, store, &mut report, 9, s);
+    io::write_all(STDOUT_FILENO, b"segment");
+    number(r.refusal as u64);
+    number(r.records as u64);
+    if r.records == 1 {
+        octets(octets::stretch(&report, 0, 12));
+    }
+    let decision = r.decision;
+    let part = receiver::delivery(decision, s, store);
+    number(part.len() as u64);
+    octets(octets::stretch(part, 0, 4));
+    io::write_all(STDOUT_FILENO, b"\n");
+    r.table
+}
+
+fn alone(name: &[u8], s: &[u8]) {
+    let mut store = [0u8; 32768];
+    io::write_all(STDOUT_FILENO, name);
+    segment(fresh(0), &mut store, s);
+}
+
+fn two(name: &[u8], s: &[u8], u: &[u8]) {
+    let mut store = [0u8; 32768];
+    io::write_all(STDOUT_FILENO, name);
+    let t = segment(fresh(0), &mut store, s);
+    io::write_all(STDOUT_FILENO, name);
+    segment(t, &mut store, u);
+}
+
+// The clock: its refusal, its records, and the cause of the first.
+fn clock(t: Table, time: u32) -> Table {
+    let mut report = [0u8; 512];
+    let r = receiver::clock(t, &mut report, time);
+    io::write_all(STDOUT_FILENO, b"clock");
+    number(r.refusal as u64);
+    number(r.records as u64);
+    if r.records == 1 {
+        octets(octets::stretch(&report, 0, 12));
+    }
+    io::write_all(STDOUT_FILENO, b"\n");
+    r.table
+}
+
+// A sending of n octets with context 3: its refusal, count and length, and the segment's first octets.
+fn sending(data: &[u8], room1: usize, room: usize, k: usize) {
+    let mut area = [0u8; 255];
+    let q = Request {
+        context: Context(3),
+        instruction: 0,
+        reference: Reference(5),
+        room1,
+        room,
+        number: k,
+    };
+    let r = sender::sending(fresh(0), q, b"", b"", data, &mut area);
+    io::write_all(STDOUT_FILENO, b"sending");
+    number(r.refusal as u64);
+    number(r.count as u64);
+    number(r.length as u64);
+    octets(octets::stretch(octets::stretch(&area, 0, r.length as usize), 0, 7));
+    io::write_all(STDOUT_FILENO, b"\n");
+}
+
+// Ten segments of a sequence: nine of 227 octets, and a last one of so many.
+fn ten(last: usize) {
+    let mut store = [0u8; 32768];
+    let mut part = [7u8; 255];
+    let mut t = fresh(0);
+    part[0] = 0x83;
+    part[1] = 0x80;
+    part[3] = 0x85;
+    let mut k: u8 = 0;
+    while k < 9 {
+        part[2] = if k == 0 { 0x49 } else { 9 - k };
+        t = segment(t, &mut store, octets::stretch(&part, 0, 231));
+        k += 1;
+    }
+    part[2] = 0;
+    segment(t, &mut store, octets::stretch(&part, 0, last));
+}
+
+fn timed() {
+    let mut store = [0u8; 32768];
+    let t = segment(fresh(0), &mut store, b"\x83\x81\x41\x85\xAA");
+    let u = clock(t, 99);
+    let v = clock(u, 100);
+    clock(v, 100);
+    let w = clock(fresh(4294967290), 5);
+    clock(w, 4);
+}
+
+fn main() {
+    alone(b"M1 ", b"");
+    alone(b"M2 ", b"\x83\x80\xC0\xAA\xBB");
+    two(b"M3 ", b"\x83\x81\x41\x85\xAA", b"\x83\x80\x00\x85\xBB");
+    alone(b"M4 ", b"\x83\x80\x00\x85\xBB");
+    alone(b"M5 ", b"\x83\x80\x49\x85");
+    alone(b"M6 ", b"\x83\x80\x4A\x85");
+    alone(b"M7 ", b"\x83\x80\x40\x85");
+    alone(b"M8 ", b"\x83\x80\xC1");
+    alone(b"M9 ", b"\x83\x00");
+    alone(b"M10 ", b"\x85");
+    two(
+        b"M11 ",
+        b"\x84\x80\x41\x85\x02\x00\x07\x00\xAA",
+        b"\x84\x80\x41\x85\x01\x07\x00\xBB",
+    );
+    alone(b"M12 ", b"\x03\x80\x80\xC0\xAA");
+    sending(b"\x01\x02\x03\x04\x05", 8, 8, 0);
+    sending(b"\x01\x02\x03\x04\x05", 7, 7, 0);
+    sending(b"\x01\x02\x03\x04\x05", 7, 7, 1);
+    let data = [7u8; 2048];
+    sending(&data, 209, 209, 0);
+    sending(&data, 209, 209, 9);
+    sending(&data, 208, 208, 0);
+    timed();
+    ten(9);
+    ten(10);
+}
