@@ -1,6 +1,6 @@
 -- Whatever keeps the contracts of the code is the machine of the rules, so whatever is proved of that holds of the code.
 use Prim.Native.Nat.{ℕ}
-use mathlib.Core.Path.{_≡_, refl, sym, subst, fun-ext, _∙_}
+use mathlib.Core.Path.{_≡_, sym, subst, fun-ext, _∙_}
 use mathlib.Core.List.{List}
 use Rattle.rules.specs.Delivery.{delivery}
 use Rattle.rules.specs.Calls.{State, Call, Opens, Arrives, Ticks, Releases, Sends, Outcome, step}

@@ -1,1 +1,5 @@
 pub mod Bridge
+pub mod Spared
+pub mod Sparing
+pub mod Arriving
+pub mod Return

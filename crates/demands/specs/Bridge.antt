@@ -5,7 +5,7 @@ use mathlib.Core.Path.{_≡_}
 use mathlib.Core.List.{List, []}
 use Rattle.rules.specs.Delivery.{delivery}
 use Rattle.rules.specs.Promises.{OfOpening, OfSegment, OfClock, OfRelease, OfSending}
-use Rattle.rules.specs.Calls.{State, Call, Opens, Arrives, Ticks, Releases, Sends, Answer, Outcome}
+use Rattle.rules.specs.Calls.{State, Call, Opens, Arrives, Ticks, Releases, Sends, Outcome}
 use Rattle.rules.specs.declared.Request.{Request}
 use Rattle.rules.specs.declared.Opened.{Opened}
 use Rattle.rules.specs.declared.Received.{Received}

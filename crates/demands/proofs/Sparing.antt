@@ -1,0 +1,141 @@
+-- Every call that spares a key leaves its place; a sweep does because each place that it frees has its record, and that is read back.
+use Prim.Native.Nat.{ℕ, suc, _≤_}
+use mathlib.Core.Path.{_≡_, refl, subst}
+use mathlib.Core.Bool.{Bool, true, false, and-eq-true-iff}
+use mathlib.Core.List.{List, [], _∷_, map}
+use native.Mathlib.Omega.{arith}
+use borrow.Author.Tests.{ltb-false, leb-true, eqb-false, not-true}
+use lib.ListN.{length}
+use Rattle.rules.specs.General.{if_then_else_, every, those}
+use Rattle.rules.specs.Refusals.{Check, accepted, first}
+use Rattle.rules.specs.Registry.{kindOf, isUsable}
+use Rattle.rules.specs.Records.{recordsFrom}
+use Rattle.rules.specs.Places.{noPlace, isOpen}
+use Rattle.rules.specs.Soundness.{openSound, placeSound, sound}
+use Rattle.rules.specs.Receiving.{segmentChecks}
+use Rattle.rules.specs.Sweep.{lossOf, sweep, Sweeping, unswept, reportLeast, isDue, isOf, clockChecks, releaseChecks, clock, release}
+use Rattle.rules.specs.Calls.{State, Call, Opens, Arrives, Ticks, Releases, Sends, step}
+use Rattle.rules.specs.declared.Entry.{Entry}
+use Rattle.rules.specs.declared.Key.{Key}
+use Rattle.rules.specs.declared.Place.{Place}
+use Rattle.rules.specs.declared.Table.{Table}
+use Rattle.rules.specs.declared.Record.{Record}
+use Rattle.rules.proofs.Cutting.{kind-known}
+use Rattle.rules.proofs.Held.{open-is, places-sound}
+use Rattle.rules.proofs.Records.{Fits, AllFit, records-back}
+use Rattle.demands.specs.Machine.{All, InRange, TypedPlace, Typed}
+use Rattle.demands.specs.Demand2.{Spares}
+use Rattle.demands.proofs.Spared.{Kept, segment-kept, segment-refused, segment-registry, segment-length, sweep-kept}
+
+registry-usable : (t : Table) → sound t ≡ true → every isUsable (t .registry) ≡ true
+unfolding sound
+registry-usable t e = (simp and-eq-true-iff at e) .0 .0 .1 .0
+
+loss-fits : (r : List Entry) (timer clock cause : ℕ) (p : Place) → every isUsable r ≡ true → openSound r timer clock p ≡ true → TypedPlace p → Fits (lossOf cause p)
+unfolding openSound
+loss-fits r timer clock cause p usable e typed =
+    let all = simp and-eq-true-iff at e in
+    let known = kind-known r (p .key .context .0) usable (eqb-false (kindOf r (p .key .context .0)) 0 (not-true _ (all .0 .0 .0 .0 .0 .0 .0 .0 .0))) in
+    let most = known .2 in
+    let size = leb-true (p .octets) 2048 (all .0 .0 .1) in
+    record { address = typed .address; association = typed .association; context = omega arith; octets = omega arith }
+
+module _ (test : Place → Bool) (opens : (p : Place) → test p ≡ true → isOpen p ≡ true) (cause : ℕ) where
+  losses-fit : (r : List Entry) (timer clock : ℕ) (ps : List Place) → every isUsable r ≡ true → every (placeSound r timer clock) ps ≡ true → All TypedPlace ps
+      → AllFit (map (lossOf cause) (those test ps))
+  losses-fit r timer clock [] usable e typed = tt
+  losses-fit r timer clock (p ∷ ps) usable e typed = go (test p) refl (losses-fit r timer clock ps usable (both .1) (typed .1))
+    where
+      both : (placeSound r timer clock p ≡ true) × (every (placeSound r timer clock) ps ≡ true)
+      both = and-eq-true-iff (placeSound r timer clock p) _ .0 e
+
+      go : (b : Bool) → test p ≡ b → AllFit (map (lossOf cause) (those test ps)) → AllFit (map (lossOf cause) (if b then p ∷ those test ps else those test ps))
+      go true t later = (loss-fits r timer clock cause p usable (open-is r timer clock p (both .0) (opens p t)) (typed .0), later)
+      go false t later = later
+
+  losses-few : (ps : List Place) → length (map (lossOf cause) (those test ps)) ≤ length ps
+  losses-few [] = omega arith
+  losses-few (p ∷ ps) = go (test p) (losses-few ps)
+    where
+      go : (b : Bool) → length (map (lossOf cause) (those test ps)) ≤ length ps
+          → length (map (lossOf cause) (if b then p ∷ those test ps else those test ps)) ≤ suc (length ps)
+      go true l = omega arith
+      go false l = omega arith
+
+  module _ (t : Table) (good : sound t ≡ true) (typed : Typed t) (time : ℕ) (report : List ℕ) where
+    sweep-back : reportLeast ≤ length report
+        → recordsFrom (sweep test cause time t report .answer .records) (sweep test cause time t report .report) ≡ map (lossOf cause) (those test (t .places))
+    unfolding sweep
+    sweep-back h =
+        let few = losses-few (t .places) in
+        let count = typed .count in
+        records-back (map (lossOf cause) (those test (t .places))) report
+        (losses-fit (t .registry) (t .timer) (t .clock) (t .places) (registry-usable t good) (places-sound t good) (typed .each)) (omega arith)
+
+    module _ (k : Key) (i : ℕ) (p : Place) (saved store : List ℕ) (none : test noPlace ≡ false) (checks : List Check)
+        (room : accepted checks ≡ true → reportLeast ≤ length report) (kept : Kept k i p saved (t .places) store) where
+      abbrev done : Bool → Sweeping
+      done b = if b then sweep test cause time t report else unswept t report (first checks)
+
+      judged-kept : All (λ (r : Record). r .key ≡ k → ⊥) (recordsFrom (done (accepted checks) .answer .records) (done (accepted checks) .report))
+          → Kept k i p saved (done (accepted checks) .answer .table .places) store
+      unfolding sweep
+      judged-kept = go (accepted checks) refl
+        where
+          go : (b : Bool) → accepted checks ≡ b → All (λ (r : Record). r .key ≡ k → ⊥) (recordsFrom (done b .answer .records) (done b .report))
+              → Kept k i p saved (done b .answer .table .places) store
+          go true e others =
+              sweep-kept k i p saved store test cause (t .places) none
+              (subst (λ (rs : List Record). All (λ (r : Record). r .key ≡ k → ⊥) rs) (sweep-back (room e)) others) kept
+          go false e others = kept
+
+swept-registry : (test : Place → Bool) (cause time : ℕ) (t : Table) (report : List ℕ) (n : ℕ) (b : Bool)
+    → (if b then sweep test cause time t report else unswept t report n) .answer .table .registry ≡ t .registry
+unfolding sweep
+swept-registry test cause time t report n true = refl
+swept-registry test cause time t report n false = refl
+
+clock-room : (t : Table) (report : List ℕ) (time : ℕ) → accepted (clockChecks t report time) ≡ true → reportLeast ≤ length report
+unfolding clockChecks
+clock-room t report time e = ltb-false (length report) reportLeast (not-true _ ((simp and-eq-true-iff at e) .1 .0))
+
+release-room : (t : Table) (report : List ℕ) → accepted (releaseChecks t report) ≡ true → reportLeast ≤ length report
+unfolding releaseChecks
+release-room t report e = ltb-false (length report) reportLeast (not-true _ ((simp and-eq-true-iff at e) .1 .0))
+
+-- the place and what was saved there
+pub spared : (k : Key) (i : ℕ) (p : Place) (saved : List ℕ) → length saved ≤ 2048 → (st : State) (c : Call) → sound (st .table) ≡ true → Typed (st .table) → InRange c
+    → Spares st k c → Kept k i p saved (st .table .places) (st .store) → Kept k i p saved (step st c .state .table .places) (step st c .state .store)
+unfolding step clock release
+spared k i p saved size st (Opens registry timer time) good typed range spares kept = absurd spares
+spared k i p saved size st (Arrives association s report) good typed range spares kept =
+    go (accepted (segmentChecks (st .table) (st .store) report association s)) refl
+  where
+    go : (b : Bool) → accepted (segmentChecks (st .table) (st .store) report association s) ≡ b
+        → Kept k i p saved (step st (Arrives association s report) .state .table .places) (step st (Arrives association s report) .state .store)
+    go true e = segment-kept (st .table) (st .store) report association s k i p saved size kept (typed .count) e (spares e)
+    go false e = rw (segment-refused (st .table) (st .store) report association s e) kept
+spared k i p saved size st (Ticks time report) good typed range spares kept =
+    judged-kept (isDue time (st .table .timer)) (λ q e. and-eq-true-iff (isOpen q) _ .0 e .0) 6 (st .table) good typed time report k i p saved (st .store) refl
+    (clockChecks (st .table) report time) (clock-room (st .table) report time) kept spares
+spared k i p saved size st (Releases association report) good typed range spares kept =
+    judged-kept (isOf association) (λ q e. and-eq-true-iff (isOpen q) _ .0 e .0) 7 (st .table) good typed (st .table .clock) report k i p saved (st .store) refl
+    (releaseChecks (st .table) report) (release-room (st .table) report) kept spares
+spared k i p saved size st (Sends q o d whole area) good typed range spares kept = kept
+
+-- the registry and the store's length
+pub registry-kept : (st : State) (c : Call) → InRange c → step st c .state .table .registry ≡ st .table .registry
+unfolding step clock release
+registry-kept st (Opens registry timer time) range = absurd range
+registry-kept st (Arrives association s report) range = segment-registry (st .table) (st .store) report association s
+registry-kept st (Ticks time report) range = swept-registry _ 6 time (st .table) report _ (accepted (clockChecks (st .table) report time))
+registry-kept st (Releases association report) range = swept-registry _ 7 (st .table .clock) (st .table) report _ (accepted (releaseChecks (st .table) report))
+registry-kept st (Sends q o d whole area) range = refl
+
+pub store-kept : (st : State) (c : Call) → InRange c → length (step st c .state .store) ≡ length (st .store)
+unfolding step
+store-kept st (Opens registry timer time) range = absurd range
+store-kept st (Arrives association s report) range = segment-length (st .table) (st .store) report association s
+store-kept st (Ticks time report) range = refl
+store-kept st (Releases association report) range = refl
+store-kept st (Sends q o d whole area) range = refl
