@@ -1,5 +1,17 @@
+pub mod Index
 pub mod Bridge
+pub mod Typed
+pub mod Refused
+pub mod Sound
 pub mod Spared
 pub mod Sparing
 pub mod Arriving
 pub mod Return
+pub mod Holding
+pub mod Placing
+pub mod ByLine
+pub mod Settling
+pub mod Sweeping
+pub mod Accepting
+pub mod Kept
+pub mod Timing

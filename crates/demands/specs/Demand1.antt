@@ -6,6 +6,7 @@ use mathlib.Core.List.{List, []}
 use Rattle.rules.specs.Refusals.{accepted, first}
 use Rattle.rules.specs.Opening.{unopened}
 use Rattle.rules.specs.Calls.{State, Call, Opens, Arrives, Ticks, Releases, Sends}
+use Rattle.rules.specs.declared.Decision.the-variants.{Refused}
 use Rattle.demands.specs.Machine.{Machine, checksOf, lentOf}
 
 -- the state after a refusal: as it came; of an opening, the unopened table
@@ -23,6 +24,7 @@ pub record Untouched (m : Machine) (st : State) (c : Call) : Type 0 where
   pub lent : m .step st c .answer .lent ≡ lentOf c
   pub count : m .step st c .answer .count ≡ 0
   pub length : m .step st c .answer .length ≡ 0
+  pub decision : m .step st c .answer .decision ≡ Refused
   pub delivers : (s store : List ℕ) → m .deliver (m .step st c .answer .decision) s store ≡ []
 
 -- the number is that of the first check in the paper's order that applies, and 0 exactly where none does

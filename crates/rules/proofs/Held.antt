@@ -1,10 +1,10 @@
 -- What a place of a sound table holds.
-use Prim.Native.Nat.{ℕ, zero, suc, _+_, _≤_, _<_}
+use Prim.Native.Nat.{ℕ, zero, suc, _≤_, _<_}
 use mathlib.Core.Path.{_≡_, refl}
 use mathlib.Core.Bool.{Bool, true, false, _||_, and-eq-true-iff}
 use mathlib.Core.List.{List, [], _∷_}
 use native.Mathlib.Omega.{arith}
-use borrow.Author.Tests.{leb-true, eqb-true, ne-eqb}
+use borrow.Author.Tests.{eqb-true, ne-eqb}
 use lib.ListN.{length, getD}
 use Rattle.rules.specs.General.{every}
 use Rattle.rules.specs.Places.{noPlace, isOpen, isFree, holds, placeOf, placeAt}
@@ -16,6 +16,7 @@ use Rattle.rules.specs.declared.Table.{Table}
 use Rattle.rules.specs.declared.Found.{Found}
 use Rattle.rules.specs.declared.Found.the-variants.{At, Nothing}
 use Rattle.rules.proofs.Places.{IsFirst, place-is}
+use Rattle.rules.proofs.Soundness.{sound-parts, open-parts}
 
 pub every-at : {A : Type 0} (f : A → Bool) (l : List A) (d : A) (i : ℕ) → every f l ≡ true → i < length l → f (getD l i d) ≡ true
 every-at f [] d i e h = let z : ⊥ = omega arith in absurd z
@@ -34,8 +35,7 @@ open-is registry timer clock p e o =
     go false h = h
 
 pub places-sound : (t : Table) → sound t ≡ true → every (placeSound (t .registry) (t .timer) (t .clock)) (t .places) ≡ true
-unfolding sound
-places-sound t s = (simp and-eq-true-iff at s) .0 .1
+places-sound t s = sound-parts t s .places
 
 -- what was saved at a key's place fits a place, and leaves a segment to come
 pub record Held (p : Place) : Type 0 where
@@ -43,12 +43,11 @@ pub record Held (p : Place) : Type 0 where
   pub segments : p .segments ≤ 9
 
 held-open : (registry : List Entry) (timer clock : ℕ) (p : Place) → openSound registry timer clock p ≡ true → Held p
-unfolding openSound
 held-open registry timer clock p e =
-    let all = simp and-eq-true-iff at e in
-    let sum = leb-true (p .segments + p .remaining .0) 10 (all .0 .0 .0 .1) in
-    let one = leb-true 1 (p .remaining .0) (all .0 .0 .0 .0 .0 .0 .1) in
-    record { octets = leb-true (p .octets) 2048 (all .0 .0 .1); segments = omega arith }
+    let all = open-parts registry timer clock p e in
+    let count = all .count in
+    let left = all .left in
+    record { octets = all .octets; segments = omega arith }
 
 pub held : (t : Table) (k : Key) → sound t ≡ true → Held (placeAt (t .places) (placeOf k (t .places)))
 held t k s = go (placeOf k (t .places)) (place-is k (t .places))

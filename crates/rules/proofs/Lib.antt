@@ -10,3 +10,8 @@ pub mod ReadBack
 pub mod Registry
 pub mod Reading
 pub mod Held
+pub mod Arrived
+pub mod Answers
+pub mod Lines
+pub mod Apart
+pub mod Soundness

@@ -1,25 +1,23 @@
 -- What a parameter that is read keeps to.
-use Prim.Native.Nat.{ℕ, _≤_}
-use mathlib.Core.Path.{_≡_, refl, sym, _∙_}
-use mathlib.Core.Bool.{Bool, true, false, _&&_, and-eq-true-iff}
+use Prim.Native.Nat.{ℕ, _+_, _%_, _≤_}
+use mathlib.Core.Path.{_≡_, refl}
+use mathlib.Core.Bool.{Bool, true, false, Bool·beq, and-eq-true-iff}
 use mathlib.Core.List.{List, [], _∷_, _++_}
 use native.Mathlib.Omega.{arith}
-use borrow.Author.Tests.{ltb-false, not-true}
-use lib.Dec.{ltb}
+use borrow.Author.Tests.{ltb-false, eqb-false, not-true}
+use lib.Dec.{eqb, ltb}
 use lib.ListN.{length}
 use Rattle.rules.specs.General.{if_then_else_}
-use Rattle.rules.specs.Numbers.{parameterMost, addressMost}
+use Rattle.rules.specs.Numbers.{parameterMost, addressMost, referenceMost}
 use Rattle.rules.specs.Refusals.{Check, _when_, accepted}
 use Rattle.rules.specs.Registry.{kindOf}
-use Rattle.rules.specs.Layout.{octet, contextOf, at2, at3, originAt, hasAddresses, fieldsOf, lastChecks, contextChecks, sequenceChecks, addressesChecks, readingChecks}
+use Rattle.rules.specs.Layout.{octet, has1a, has3a, isMissing, isAlone, isNew, remainingOf, referenceOf, contextOf, at2, at3, originAt, hasAddresses, fieldsOf, lastChecks, contextChecks, sequenceChecks, addressesChecks, readingChecks}
 use Rattle.rules.specs.declared.Entry.{Entry}
-use Rattle.rules.proofs.Refusals.{accepted-append}
-
-both : (a b : Bool) → (a && b) ≡ true → (a ≡ true) × (b ≡ true)
-both a b e = and-eq-true-iff a b .0 e
+use Rattle.rules.proofs.Refusals.{accepted-both, accepted-one}
 
 -- the length octet, where there is one
-origin-short : (s : List ℕ) (at : ℕ) (b : Bool) (kind : ℕ) → hasAddresses kind ≡ b → accepted (addressesChecks kind s at) ≡ true → (if b then octet s at else 0) ≤ addressMost
+origin-short : (s : List ℕ) (at : ℕ) (b : Bool) (kind : ℕ) → hasAddresses kind ≡ b → accepted (addressesChecks kind s at) ≡ true
+    → (if b then octet s at else 0) ≤ addressMost
 origin-short s at true kind h e =
     let all = simp and-eq-true-iff at (simp h at e) in
     ltb-false addressMost (octet s at) (not-true _ (all .1 .0))
@@ -34,11 +32,38 @@ module _ (registry : List Entry) (s : List ℕ) (e : accepted (readingChecks reg
 
   parts : (accepted (four ++ contextChecks registry s ++ lastChecks s (at2 s) ++ sequenceChecks s (at3 s)) ≡ true) × (accepted addresses ≡ true)
   unfolding readingChecks
-  parts = both _ _ (sym (accepted-append (four ++ contextChecks registry s ++ lastChecks s (at2 s) ++ sequenceChecks s (at3 s)) addresses) ∙ e)
+  parts = accepted-both (four ++ contextChecks registry s ++ lastChecks s (at2 s) ++ sequenceChecks s (at3 s)) addresses e
 
   pub parameter-short : length s ≤ parameterMost
-  parameter-short = ltb-false parameterMost (length s) (not-true _ (both _ _ (parts .0) .0))
+  parameter-short = ltb-false parameterMost (length s) (not-true _ (and-eq-true-iff _ _ .0 (parts .0) .0))
 
   pub address-short : fieldsOf registry s .length ≤ addressMost
   unfolding fieldsOf
   address-short = origin-short s (originAt s) (hasAddresses (kindOf registry (contextOf s))) (kindOf registry (contextOf s)) refl (parts .1)
+
+  sequence : (accepted (four ++ contextChecks registry s ++ lastChecks s (at2 s)) ≡ true) × (accepted (sequenceChecks s (at3 s)) ≡ true)
+  sequence = accepted-both (four ++ contextChecks registry s ++ lastChecks s (at2 s)) (sequenceChecks s (at3 s)) (parts .0)
+
+  context : (accepted (four ++ contextChecks registry s) ≡ true) × (accepted (lastChecks s (at2 s)) ≡ true)
+  context = accepted-both (four ++ contextChecks registry s) (lastChecks s (at2 s)) (sequence .0)
+
+  pub context-registered : kindOf registry (contextOf s) ≡ 0 → ⊥
+  context-registered =
+      let here = accepted-both four (contextChecks registry s) (context .0) .1 in
+      let last = accepted-both ((5 when isMissing s 0 ∷ []) ++ (if has1a s then lastChecks s 1 else [])) (8 when eqb (kindOf registry (contextOf s)) 0 ∷ []) here .1 in
+      eqb-false (kindOf registry (contextOf s)) 0 (accepted-one (8 when eqb (kindOf registry (contextOf s)) 0) last)
+
+  -- octet 3a is there where the parameter is segmented
+  pub reference-short : isAlone (isNew (octet s (at3 s))) (remainingOf (octet s (at3 s))) ≡ false → referenceOf s (at3 s) ≤ referenceMost
+  reference-short h = go (has3a (octet s (at3 s))) (isAlone (isNew (octet s (at3 s))) (remainingOf (octet s (at3 s)))) h (accepted-one seven last)
+    where
+      seven : Check
+      seven = 7 when Bool·beq (has3a (octet s (at3 s))) (isAlone (isNew (octet s (at3 s))) (remainingOf (octet s (at3 s))))
+
+      last : accepted (seven ∷ []) ≡ true
+      last = accepted-both ((5 when isMissing s (at3 s) ∷ []) ++ (if has3a (octet s (at3 s)) then lastChecks s (at3 s + 1) else [])) (seven ∷ []) (sequence .1) .1
+
+      go : (b alone : Bool) → alone ≡ false → Bool·beq b alone ≡ false → (if b then octet s (at3 s + 1) % 128 else 255) ≤ referenceMost
+      go true alone a e = omega arith
+      go false true a e = let z : _≡_ {A = ℕ} 0 1 = cc in omega arith
+      go false false a e = let z : _≡_ {A = ℕ} 0 1 = cc in omega arith

@@ -14,9 +14,9 @@ use Rattle.rules.specs.General.{if_then_else_, every, everyTwo}
 use Rattle.rules.specs.Numbers.{entriesMost, timerInRange}
 use Rattle.rules.specs.Refusals.{_when_, judged}
 use Rattle.rules.specs.Registry.{entriesOf, isCut, isUnused, isEntry, entriesApart, listsRegistry}
-use Rattle.rules.specs.Opening.{noEntry, emptyTable, unopened, opening}
+use Rattle.rules.specs.Opening.{noEntry, emptyTable, opening}
 use Rattle.rules.specs.declared.Entry.{Entry}
-use Rattle.rules.specs.declared.Opened.{Opened}
+use Rattle.rules.proofs.Answers.{unopenedBy}
 use Rattle.rules.proofs.Lists.{left}
 
 -- no record is cut where the length is a multiple of 3
@@ -82,7 +82,7 @@ apart-unused d = go (isUnused d) (not (eqb (d .context .0) 0))
     go true b = refl
     go false b = refl
 
-every-unused : (f : Entry → Bool) → f noEntry ≡ true → (es : List Entry) (k : ℕ) → every f (es ++ replicate k noEntry) ≡ every f es
+pub every-unused : (f : Entry → Bool) → f noEntry ≡ true → (es : List Entry) (k : ℕ) → every f (es ++ replicate k noEntry) ≡ every f es
 every-unused f e [] zero = refl
 every-unused f e [] (suc k) = rw e (every-unused f e [] k)
 every-unused f e (d ∷ es) k = rw (every-unused f e es k)
@@ -121,11 +121,8 @@ judged-two true true f x = refl
 judged-two true false f x = refl
 judged-two false b f x = refl
 
-abbrev refusedBy : ℕ → Opened
-refusedBy n = record { table = unopened; refusal = n }
-
 pub opening-by : (s : List ℕ) (timer clock : ℕ) (timed listed : Bool) → timerInRange timer ≡ timed → listsRegistry s ≡ listed
     → opening s timer clock
-    ≡ (if timed then if listed then record { table = emptyTable (entriesOf s) timer clock; refusal = 0 } else refusedBy 11 else refusedBy 12)
+    ≡ (if timed then if listed then record { table = emptyTable (entriesOf s) timer clock; refusal = 0 } else unopenedBy 11 else unopenedBy 12)
 unfolding opening
-opening-by s timer clock timed listed e h = rw (e, h) (judged-two timed listed refusedBy _)
+opening-by s timer clock timed listed e h = rw (e, h) (judged-two timed listed unopenedBy _)

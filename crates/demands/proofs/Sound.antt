@@ -1,0 +1,327 @@
+-- Opening gives a sound table and every call keeps it sound.
+use Prim.Native.Nat.{ℕ, _+_, _-_, _≤_, _<_}
+use mathlib.Core.Path.{_≡_, refl, sym, _∙_}
+use mathlib.Core.Bool.{Bool, true, false, not, _&&_, _||_, and-eq-true-iff}
+use mathlib.Core.List.{List, [], _∷_}
+use native.Mathlib.Omega.{arith}
+use borrow.Author.Tests.{eqb-true, leb-true, leb-false, ne-eqb, le-leb, not-true, not-false}
+use lib.Dec.{eqb, leb}
+use lib.ListN.{length, getD, length-drop}
+use Rattle.rules.specs.General.{if_then_else_, every, everyTwo}
+use Rattle.rules.specs.Numbers.{entriesMost, timerInRange, age}
+use Rattle.rules.specs.Refusals.{Check, _when_, accepted, first}
+use Rattle.rules.specs.Registry.{kindOf, entriesOf, isCut, isUnused, isEntry, isUsable, entriesApart, listsRegistry}
+use Rattle.rules.specs.Layout.{isAlone, contextOf, fieldsOf, readingChecks}
+use Rattle.rules.specs.Places.{noPlace, freePlace, holds, isOpen, isAt, placeOf, placeAt, putPlace, lowestFree}
+use Rattle.rules.specs.Soundness.{isZero, addressSound, openSound, freeSound, placeSound, placesApart, sound}
+use Rattle.rules.specs.Opening.{emptyTable, openingChecks}
+use Rattle.rules.specs.Receiving.{keyOf, informationOf, openPlace, begun, lineOf, effectOf, segmentChecks, Reception}
+use Rattle.rules.specs.Sweep.{freedBy, isDue, sweep, Sweeping, clockChecks, releaseChecks}
+use Rattle.rules.specs.Sending.{sendingChecks}
+use Rattle.rules.specs.Calls.{State, Call, Opens, Arrives, Ticks, Releases, Sends, step}
+use Rattle.rules.specs.declared.Entry.{Entry}
+use Rattle.rules.specs.declared.Key.{Key}
+use Rattle.rules.specs.declared.Place.{Place}
+use Rattle.rules.specs.declared.Table.{Table}
+use Rattle.rules.specs.declared.Fields.{Fields}
+use Rattle.rules.specs.declared.Found.{Found}
+use Rattle.rules.specs.declared.Found.the-variants.{At, Nothing}
+use Rattle.rules.specs.declared.Line.{Line}
+use Rattle.rules.specs.declared.Opened.{Opened}
+use Rattle.rules.proofs.Refusals.{Least, first-least, accepted-first}
+use Rattle.rules.proofs.Registry.{every-unused, padded-apart}
+use Rattle.rules.proofs.Reading.{parameter-short, address-short, context-registered, reference-short}
+use Rattle.rules.proofs.Places.{IsFirst, place-is}
+use Rattle.rules.proofs.Held.{every-at, open-is}
+use Rattle.rules.proofs.Arrived.{arrived}
+use Rattle.rules.proofs.Answers.{opened-by, segment-by, clock-by, release-by}
+use Rattle.rules.proofs.Lines.{line-cases}
+use Rattle.rules.proofs.Apart.{every-set, two-at, two-set, apart-new, apart-own, apart-free, every-map, freed-two}
+use Rattle.rules.proofs.Soundness.{SoundTable, sound-parts, sound-of, OpenPlace, open-parts, open-of, free-sound, filled-zero}
+use Rattle.demands.specs.Machine.{ours, checksOf, isOpening, All}
+use Rattle.demands.specs.Soundness.{later, Sound}
+use Rattle.demands.proofs.Refused.{number, others, others-least}
+
+-- a place as a sound table has it
+abbrev SoundIn : Table → Place → Type 0
+SoundIn t p = placeSound (t .registry) (t .timer) (t .clock) p ≡ true
+
+-- what a table's places keep to
+abbrev Good : Table → List Place → Type 0
+Good t ps = (every (placeSound (t .registry) (t .timer) (t .clock)) ps ≡ true) × (everyTwo placesApart ps ≡ true)
+
+module _ (t : Table) (ok : SoundTable t) where
+  abbrev ps : List Place
+  ps = t .places
+
+  same-good : Good t ps
+  same-good = (ok .places, ok .apart)
+
+  -- a place may be put where it is apart from the others
+  put-good : (i : ℕ) (x : Place) → SoundIn t x → ((j : ℕ) → j < length ps → (j ≡ i → ⊥) → placesApart x (getD ps j noPlace) ≡ true) → Good t (putPlace ps (At i) x)
+  put-good i x s h = (every-set _ ps i x s (ok .places), two-set ps i x (ok .apart) h)
+
+  free-good : (f : Found) → Good t (putPlace ps f freePlace)
+  free-good (At i) = put-good i freePlace (free-sound (t .registry) (t .timer) (t .clock)) (λ j b d. apart-free (getD ps j noPlace))
+  free-good Nothing = same-good
+
+  module _ (k : Key) where
+    own-good : (f : Found) → IsFirst (holds k) ps f → (x : Place) → x .key ≡ k → SoundIn t x → Good t (putPlace ps f x)
+    own-good (At i) h x e s =
+        put-good i x s (λ j b d. apart-own k x (getD ps i noPlace) (getD ps j noPlace) e (h .1) (two-at ps i j (ok .apart) (h .0) b (λ z. d (sym z))))
+    own-good Nothing h x e s = same-good
+
+    new-good : (f : Found) → IsFirst (holds k) ps f → isAt f ≡ false → (room : Found) (x : Place) → x .key ≡ k → SoundIn t x → Good t (putPlace ps room x)
+    new-good f h n Nothing x e s = same-good
+    new-good (At j) h n (At i) x e s = let z : _≡_ {A = ℕ} 0 1 = cc in let y : ⊥ = omega arith in absurd y
+    new-good Nothing h n (At i) x e s = put-good i x s (λ j b d. apart-new k x (getD ps j noPlace) e (h j b))
+
+    own-open : (f : Found) → IsFirst (holds k) ps f → isAt f ≡ true → OpenPlace (t .registry) (t .timer) (t .clock) (placeAt ps f)
+    own-open (At i) h a =
+        let p : Place = getD ps i noPlace in
+        let s = every-at (placeSound (t .registry) (t .timer) (t .clock)) ps noPlace i (ok .places) (h .0) in
+        open-parts (t .registry) (t .timer) (t .clock) p (open-is (t .registry) (t .timer) (t .clock) p s (and-eq-true-iff _ _ .0 (h .1) .0))
+    own-open Nothing h a = let z : _≡_ {A = ℕ} 0 1 = cc in let y : ⊥ = omega arith in absurd y
+
+open-place : (registry : List Entry) (timer clock : ℕ) (p : Place) → isOpen p ≡ true → openSound registry timer clock p ≡ true → placeSound registry timer clock p ≡ true
+open-place registry timer clock p o s = rw (o, s)
+
+not-alone : (new : Bool) (r : ℕ) → 1 ≤ r → isAlone new r ≡ false
+not-alone true r h = ne-eqb r 0 (λ e. omega arith)
+not-alone false r h = refl
+
+-- the place of a parameter that is read and is one of several
+module _ (t : Table) (association : ℕ) (s : List ℕ) (reading : accepted (readingChecks (t .registry) s) ≡ true) where
+  abbrev f : Fields
+  f = fieldsOf (t .registry) s
+
+  abbrev key : Key
+  key = keyOf association s f
+
+  -- kind 1 has no addresses
+  kind-empty : (kind : ℕ) (b : Bool) (n : ℕ) → eqb kind 2 ≡ b → (not (eqb kind 1) || isZero (if b then n else 0)) ≡ true
+  kind-empty kind true n e = let two = eqb-true kind 2 e in rw (ne-eqb kind 1 (λ h. omega arith))
+  kind-empty kind false n e = go (eqb kind 1)
+    where
+      go : (b : Bool) → (not b || true) ≡ true
+      go true = refl
+      go false = refl
+
+  address-sound : (p : Place) → p .key ≡ key → addressSound (kindOf (t .registry) (key .context .0)) p ≡ true
+  unfolding fieldsOf
+  address-sound p e =
+      rw (e, le-leb _ _ (address-short (t .registry) s reading), filled-zero (f .length) _ _, kind-empty (kindOf (t .registry) (contextOf s)) _ _ refl)
+
+  registered : kindOf (t .registry) (key .context .0) ≡ 0 → ⊥
+  unfolding fieldsOf
+  registered = context-registered (t .registry) s reading
+
+  reference : 1 ≤ f .heading .remaining .0 → key .reference .0 ≤ 127
+  unfolding fieldsOf
+  reference some = reference-short (t .registry) s reading (not-alone (f .heading .new) (f .heading .remaining .0) some)
+
+  instruction : f .heading .instruction ≤ 3
+  unfolding fieldsOf
+  instruction = omega arith
+
+  information : length (informationOf s f) ≤ 255
+  information = let short = parameter-short (t .registry) s reading in rw length-drop (omega arith)
+
+  open-sound : (instruction segments octets start : ℕ) → 1 ≤ f .heading .remaining .0 → f .heading .remaining .0 ≤ 9 → instruction ≤ 3 → 1 ≤ segments
+      → segments + f .heading .remaining .0 ≤ 10 → octets ≤ 2048 → age (t .clock) start < t .timer
+      → SoundIn t (openPlace key (f .heading .remaining) instruction segments octets start)
+  open-sound instruction segments octets start some nine three one ten most young =
+      let p : Place = openPlace key (f .heading .remaining) instruction segments octets start in
+      open-place (t .registry) (t .timer) (t .clock) p refl
+      (open-of (t .registry) (t .timer) (t .clock) p
+      (record {
+        registered = registered;
+        reference = reference some;
+        instruction = three;
+        left = some;
+        most = nine;
+        begun = one;
+        count = ten;
+        octets = most;
+        address = address-sound p refl;
+        young = young;
+      }))
+
+age-none : (time : ℕ) → age time time ≡ 0
+unfolding age
+age-none time = omega arith
+
+-- every line keeps the places good
+module _ (t : Table) (ok : SoundTable t) (association : ℕ) (s : List ℕ) (reading : accepted (readingChecks (t .registry) s) ≡ true) where
+  abbrev g : Fields
+  g = fieldsOf (t .registry) s
+
+  abbrev k : Key
+  k = keyOf association s g
+
+  abbrev octets : List ℕ
+  octets = informationOf s g
+
+  fresh : 1 ≤ g .heading .remaining .0 → g .heading .remaining .0 ≤ 9 → SoundIn t (begun t k (g .heading) (length octets))
+  fresh some nine =
+      let one = leb-true 1 (t .timer) (and-eq-true-iff (leb 1 (t .timer)) (leb (t .timer) 1000000) .0 (ok .timer) .0) in
+      open-sound t association s reading _ _ _ _ some nine (instruction t association s reading) (omega arith) (omega arith)
+      (omega (arith, information t association s reading)) (omega (arith, age-none (t .clock)))
+
+  segment-good : (store : List ℕ) (place : Found) → IsFirst (holds k) (t .places) place → (room : Found)
+      → let p : Place = placeAt (t .places) place in
+      Good t (effectOf (lineOf (isAt place) (p .remaining .0) (p .octets) (g .heading) (length octets)) t store k g octets place p room .places)
+  unfolding effectOf
+  segment-good store place h room =
+      let p : Place = placeAt (t .places) place in
+      line-cases (λ (line : Line). Good t (effectOf line t store k g octets place p room .places)) (isAt place) (p .remaining .0) (p .octets) (g .heading) (length octets)
+      (record {
+        unsegmented = λ a b. same-good t ok;
+        beyond = λ a. free-good t ok place;
+        restart = λ a b some nine. own-good t ok k place h _ refl (fresh some nine);
+        start = λ a b some nine. new-good t ok k place h b room _ refl (fresh some nine);
+        stray = λ a b c. free-good t ok place;
+        gap = λ a b c d. free-good t ok place;
+        over = λ a b c d e. free-good t ok place;
+        final = λ a b c d e. free-good t ok place;
+        next = λ a b some nine follows fits.
+            let o = own-open t ok k place h b in
+            let count = o .count in
+            own-good t ok k place h _ refl (open-sound t association s reading _ _ _ _ some nine (o .instruction) (omega arith) (omega arith) fits (o .young));
+      })
+
+-- a sweep keeps a place sound where it keeps it
+sweep-sound : (test : Place → Bool) (cause time : ℕ) (t : Table) (report : List ℕ) → SoundTable t
+    → ((p : Place) → test p ≡ false → SoundIn t p → placeSound (t .registry) (t .timer) time p ≡ true) → sound (sweep test cause time t report .answer .table) ≡ true
+unfolding sweep
+sweep-sound test cause time t report ok keep =
+    sound-of _
+    (record {
+      timer = ok .timer;
+      registry = ok .registry;
+      places = every-map (placeSound (t .registry) (t .timer) (t .clock)) (placeSound (t .registry) (t .timer) time) (freedBy test) freed (t .places) (ok .places);
+      apart = freed-two test (t .places) (ok .apart);
+    })
+  where
+    freed : (p : Place) → SoundIn t p → placeSound (t .registry) (t .timer) time (freedBy test p) ≡ true
+    freed p s = go (test p) refl
+      where
+        go : (b : Bool) → test p ≡ b → placeSound (t .registry) (t .timer) time (if b then freePlace else p) ≡ true
+        go true e = free-sound (t .registry) (t .timer) time
+        go false e = keep p e s
+
+-- what is not due is young at the new time
+young : (registry : List Entry) (timer clock time : ℕ) (p : Place) → isDue time timer p ≡ false
+    → placeSound registry timer clock p ≡ true → placeSound registry timer time p ≡ true
+young registry timer clock time p d s = go (isOpen p) refl
+  where
+    go : (b : Bool) → isOpen p ≡ b → placeSound registry timer time p ≡ true
+    go true o =
+        let old = open-parts registry timer clock p (open-is registry timer clock p s o) in
+        let age-less = leb-false timer (age time (p .start)) (simp o at d) in
+        open-place registry timer time p o
+        (open-of registry timer time p
+        (record {
+          registered = old .registered;
+          reference = old .reference;
+          instruction = old .instruction;
+          left = old .left;
+          most = old .most;
+          begun = old .begun;
+          count = old .count;
+          octets = old .octets;
+          address = old .address;
+          young = age-less;
+        }))
+    go false o = simp o (simp o at s)
+
+entries-usable : (es : List Entry) → every isEntry es ≡ true → every isUsable es ≡ true
+entries-usable [] h = refl
+entries-usable (e ∷ es) h =
+    let all = and-eq-true-iff (isEntry e) (every isEntry es) .0 h in
+    let one : isUsable e ≡ true = go (isUnused e) (isEntry e) (all .0) in
+    rw (one, entries-usable es (all .1))
+  where
+    go : (a b : Bool) → b ≡ true → (a || b) ≡ true
+    go true b t = refl
+    go false b t = t
+
+empty-sound : (registry : List ℕ) (timer time : ℕ) → accepted (openingChecks registry timer) ≡ true → sound (emptyTable (entriesOf registry) timer time) ≡ true
+unfolding freeSound
+empty-sound registry timer time e =
+    let checks = and-eq-true-iff (not (not (timerInRange timer))) _ .0 e in
+    let listed = and-eq-true-iff (not (not (listsRegistry registry))) true .0 (checks .1) in
+    let lists = not-false (listsRegistry registry) (not-true _ (listed .0)) in
+    let es : List Entry = entriesOf registry in
+    let whole : Bool = not (isCut registry) && leb (length es) entriesMost in
+    let all = and-eq-true-iff (whole && every isEntry es) (everyTwo entriesApart es) .0 lists in
+    let entries = and-eq-true-iff whole (every isEntry es) .0 (all .0) in
+    let usable = every-unused isUsable refl es (entriesMost - length es) ∙ entries-usable es (entries .1) in
+    sound-of _
+    (record {
+      timer = not-false (timerInRange timer) (not-true _ (checks .0));
+      registry = rw (usable, padded-apart (entriesOf registry)) (all .1);
+      places = refl;
+      apart = refl;
+    })
+
+opened : (st : State) (registry : List ℕ) (timer time : ℕ) → accepted (openingChecks registry timer) ≡ true
+    → sound (step st (Opens registry timer time) .state .table) ≡ true
+unfolding step
+opened st registry timer time ok =
+    opened-by (λ (o : Opened). sound (o .table) ≡ true) registry timer time (empty-sound registry timer time) (λ e. cc)
+
+kept : (st : State) (c : Call) → sound (st .table) ≡ true → isOpening c ≡ false → sound (step st c .state .table) ≡ true
+unfolding step
+kept st (Opens registry timer time) s h = cc
+kept st (Arrives association x report) s h =
+    let t : Table = st .table in
+    let ok = sound-parts t s in
+    let key : Key = keyOf association x (fieldsOf (t .registry) x) in
+    segment-by (λ (o : Reception). sound (o .answer .table) ≡ true) t (st .store) report association x
+    (λ e.
+    let reading = arrived t (st .store) report association x e .reading in
+    let good = segment-good t ok association x reading (st .store) (placeOf key (t .places)) (place-is key (t .places)) (lowestFree (t .places)) in
+    sound-of _ (record { timer = ok .timer; registry = ok .registry; places = good .0; apart = good .1 }))
+    (λ e. s)
+kept st (Ticks time report) s h =
+    clock-by (λ (o : Sweeping). sound (o .answer .table) ≡ true) (st .table) report time
+    (λ e. sweep-sound _ 6 time (st .table) report (sound-parts (st .table) s) (young (st .table .registry) (st .table .timer) (st .table .clock) time)) (λ e. s)
+kept st (Releases association report) s h =
+    release-by (λ (o : Sweeping). sound (o .answer .table) ≡ true) (st .table) report association
+    (λ e. sweep-sound _ 7 (st .table .clock) (st .table) report (sound-parts (st .table) s) (λ p d a. a)) (λ e. s)
+kept st (Sends q o d whole area) s h = s
+
+later-kept : (st : State) (cs : List Call) → sound (st .table) ≡ true → All (λ (c : Call). isOpening c ≡ false) cs → sound (later ours st cs .table) ≡ true
+later-kept st [] s h = s
+later-kept st (c ∷ cs) s h = later-kept (step st c .state) cs (kept st c s (h .0)) (h .1)
+
+-- a sound table passes check 1, and no other has that number
+over-1 : (table : Bool) (cs : List Check) → Least 2 cs → table ≡ true → first (1 when not table ∷ cs) ≡ 1 → ⊥
+over-1 false cs h t e = let z : _≡_ {A = ℕ} 0 1 = cc in omega arith
+over-1 true cs h t e = go (accepted cs) refl
+  where
+    go : (b : Bool) → accepted cs ≡ b → ⊥
+    go true a = omega (arith, accepted-first cs a)
+    go false a = omega (arith, first-least 2 cs h a)
+
+pub passes-1 : (st : State) (c : Call) → isOpening c ≡ false → sound (st .table) ≡ true → first (checksOf st c) ≡ 1 → ⊥
+unfolding segmentChecks clockChecks releaseChecks sendingChecks
+passes-1 st c o s e = go c o (others-least st c) e
+  where
+    go : (c : Call) → isOpening c ≡ false → Least 2 (others (checksOf st c)) → first (checksOf st c) ≡ 1 → ⊥
+    go (Opens registry timer time) o h e = let z : _≡_ {A = ℕ} 0 1 = cc in omega arith
+    go (Arrives association x report) o h e = over-1 (sound (st .table)) (others (checksOf st (Arrives association x report))) h s e
+    go (Ticks time report) o h e = over-1 (sound (st .table)) (others (checksOf st (Ticks time report))) h s e
+    go (Releases association report) o h e = over-1 (sound (st .table)) (others (checksOf st (Releases association report))) h s e
+    go (Sends q o d whole area) z h e = over-1 (sound (st .table)) (others (checksOf st (Sends q o d whole area))) h s e
+
+pub soundness : Sound ours
+soundness =
+    record {
+      opened = opened;
+      kept = kept;
+      never1 = λ st registry timer time ok cs all c o e.
+          let st′ : State = later ours (step st (Opens registry timer time) .state) cs in
+          passes-1 st′ c o (later-kept (step st (Opens registry timer time) .state) cs (opened st registry timer time ok) all) (sym (number st′ c) ∙ e);
+    }

@@ -1,0 +1,105 @@
+-- The table after any call has what the types of its fields say.
+use Prim.Native.Nat.{ℕ, zero, suc, _≤_, _<_, _^_}
+use mathlib.Core.Path.{_≡_, refl, _∙_}
+use mathlib.Core.Bool.{Bool, true, false}
+use mathlib.Core.List.{List, [], _∷_, map}
+use native.Mathlib.Omega.{arith}
+use lib.ListN.{length, take, drop, set, replicate, length-append, length-replicate, length-set, length-take, length-map}
+use Rattle.rules.specs.General.{if_then_else_}
+use Rattle.rules.specs.Numbers.{placeCount, addressMost}
+use Rattle.rules.specs.Layout.{fieldsOf}
+use Rattle.rules.specs.Places.{freePlace, putPlace}
+use Rattle.rules.specs.Opening.{emptyTable}
+use Rattle.rules.specs.Registry.{entriesOf}
+use Rattle.rules.specs.Receiving.{keyOf, effectOf, Reception}
+use Rattle.rules.specs.Sweep.{freedBy, Sweeping, sweep}
+use Rattle.rules.specs.Calls.{State, Call, Opens, Arrives, Ticks, Releases, Sends, step}
+use Rattle.rules.specs.declared.Entry.{Entry}
+use Rattle.rules.specs.declared.Key.{Key}
+use Rattle.rules.specs.declared.Place.{Place}
+use Rattle.rules.specs.declared.Table.{Table}
+use Rattle.rules.specs.declared.Fields.{Fields}
+use Rattle.rules.specs.declared.Found.{Found}
+use Rattle.rules.specs.declared.Found.the-variants.{At, Nothing}
+use Rattle.rules.specs.declared.Line.{Line}
+use Rattle.rules.specs.declared.Line.the-variants.{Unsegmented, Broken, Restart, Start, Final, Next}
+use Rattle.rules.specs.declared.Opened.{Opened}
+use Rattle.rules.proofs.Answers.{opened-by, segment-by, clock-by, release-by}
+use Rattle.rules.proofs.Reading.{address-short}
+use Rattle.rules.proofs.Arrived.{arrived}
+use Rattle.demands.specs.Machine.{All, InRange, TypedPlace, Typed}
+
+-- places as their types say
+abbrev TypedPlaces : List Place → Type 0
+TypedPlaces ps = (length ps ≡ placeCount) × All TypedPlace ps
+
+free-typed : TypedPlace freePlace
+free-typed = record { address = refl; association = omega arith }
+
+all-set : (ps : List Place) (i : ℕ) (p : Place) → TypedPlace p → All TypedPlace ps → All TypedPlace (set ps i p)
+all-set [] i p h all = tt
+all-set (q ∷ ps) zero p h all = (h, all .1)
+all-set (q ∷ ps) (suc i) p h all = (all .0, all-set ps i p h (all .1))
+
+put-typed : (ps : List Place) (f : Found) (p : Place) → TypedPlace p → TypedPlaces ps → TypedPlaces (putPlace ps f p)
+put-typed ps (At i) p h all = (length-set ps i p ∙ all .0, all-set ps i p h (all .1))
+put-typed ps Nothing p h all = all
+
+all-replicate : (n : ℕ) → All TypedPlace (replicate n freePlace)
+all-replicate zero = tt
+all-replicate (suc n) = (free-typed, all-replicate n)
+
+empty-typed : (entries : List Entry) (timer clock : ℕ) → Typed (emptyTable entries timer clock)
+empty-typed entries timer clock = record { count = refl; each = all-replicate placeCount }
+
+-- a place with the key of a segment whose address is within 20
+key-typed : (association : ℕ) (s : List ℕ) (f : Fields) → association < 2 ^ 16 → f .length ≤ addressMost → (p : Place) → p .key ≡ keyOf association s f → TypedPlace p
+key-typed association s f a n p e =
+    let n20 : length (take (f .length) (drop (f .origin) s)) ≤ addressMost = rw length-take (omega arith) in
+    record {
+      address = rw (e, length-append, length-replicate) (omega arith);
+      association = rw e a;
+    }
+
+effect-typed : (line : Line) (t : Table) (store : List ℕ) (key : Key) (f : Fields) (octets : List ℕ) (place : Found) (p : Place) (room : Found)
+    → ((q : Place) → q .key ≡ key → TypedPlace q) → TypedPlaces (t .places) → TypedPlaces (effectOf line t store key f octets place p room .places)
+unfolding effectOf
+effect-typed Unsegmented t store key f octets place p room new h = h
+effect-typed (Broken cause) t store key f octets place p room new h = put-typed (t .places) place _ free-typed h
+effect-typed Restart t store key f octets place p room new h = put-typed (t .places) place _ (new _ refl) h
+effect-typed Start t store key f octets place p room new h = put-typed (t .places) room _ (new _ refl) h
+effect-typed Final t store key f octets place p room new h = put-typed (t .places) place _ free-typed h
+effect-typed Next t store key f octets place p room new h = put-typed (t .places) place _ (new _ refl) h
+
+freed-typed : (test : Place → Bool) (ps : List Place) → All TypedPlace ps → All TypedPlace (map (freedBy test) ps)
+freed-typed test [] all = tt
+freed-typed test (p ∷ ps) all = (go (test p), freed-typed test ps (all .1))
+  where
+    go : (b : Bool) → TypedPlace (if b then freePlace else p)
+    go true = free-typed
+    go false = all .0
+
+sweep-typed : (test : Place → Bool) (cause time : ℕ) (t : Table) (report : List ℕ) → Typed t → Typed (sweep test cause time t report .answer .table)
+unfolding sweep
+sweep-typed test cause time t report h = record { count = simp length-map (h .count); each = freed-typed test (t .places) (h .each) }
+
+pub typed-opened : (st : State) (registry : List ℕ) (timer time : ℕ) → Typed (step st (Opens registry timer time) .state .table)
+unfolding step
+typed-opened st registry timer time =
+    opened-by (λ (o : Opened). Typed (o .table)) registry timer time (λ e. empty-typed (entriesOf registry) timer time) (λ e. empty-typed [] 0 0)
+
+pub typed-kept : (st : State) (c : Call) → Typed (st .table) → InRange c → Typed (step st c .state .table)
+unfolding step
+typed-kept st (Opens registry timer time) h r = absurd r
+typed-kept st (Arrives association s report) h r =
+    segment-by (λ (o : Reception). Typed (o .answer .table)) (st .table) (st .store) report association s
+    (λ e.
+    let short = address-short (st .table .registry) s (arrived (st .table) (st .store) report association s e .reading) in
+    let all = effect-typed _ (st .table) (st .store) _ _ _ _ _ _ (key-typed association s (fieldsOf (st .table .registry) s) r short) (h .count, h .each) in
+    record { count = all .0; each = all .1 })
+    (λ e. h)
+typed-kept st (Ticks time report) h r =
+    clock-by (λ (o : Sweeping). Typed (o .answer .table)) (st .table) report time (λ e. sweep-typed _ 6 time (st .table) report h) (λ e. h)
+typed-kept st (Releases association report) h r =
+    release-by (λ (o : Sweeping). Typed (o .answer .table)) (st .table) report association (λ e. sweep-typed _ 7 (st .table .clock) (st .table) report h) (λ e. h)
+typed-kept st (Sends q o d whole area) h r = h

@@ -1,0 +1,96 @@
+-- What soundness asks of an open place, of a key and of a table, in parts.
+use Prim.Native.Nat.{ℕ, zero, suc, _+_, _≤_, _<_}
+use mathlib.Core.Path.{_≡_, refl}
+use mathlib.Core.Bool.{Bool, true, _&&_, and-eq-true-iff}
+use mathlib.Core.List.{List, [], _∷_, _++_}
+use borrow.Author.Tests.{leb-true, ltb-true, eqb-false, ne-eqb, le-leb, lt-ltb, not-true}
+use lib.ListN.{take, drop, replicate}
+use Rattle.rules.specs.General.{every, everyTwo}
+use Rattle.rules.specs.Numbers.{timerInRange, referenceMost, instructionMost, segmentsMost, dataMost, age}
+use Rattle.rules.specs.Registry.{kindOf, registrySound}
+use Rattle.rules.specs.Places.{freePlace}
+use Rattle.rules.specs.Soundness.{isZero, addressSound, openSound, freeSound, placeSound, placesApart, sound}
+use Rattle.rules.specs.declared.Entry.{Entry}
+use Rattle.rules.specs.declared.Place.{Place}
+use Rattle.rules.specs.declared.Table.{Table}
+
+pub record SoundTable (t : Table) : Type 0 where
+  pub timer : timerInRange (t .timer) ≡ true
+  pub registry : registrySound (t .registry) ≡ true
+  pub places : every (placeSound (t .registry) (t .timer) (t .clock)) (t .places) ≡ true
+  pub apart : everyTwo placesApart (t .places) ≡ true
+
+pub sound-parts : (t : Table) → sound t ≡ true → SoundTable t
+unfolding sound
+sound-parts t s =
+    let places : Bool = every (placeSound (t .registry) (t .timer) (t .clock)) (t .places) in
+    let three = and-eq-true-iff (timerInRange (t .timer) && registrySound (t .registry) && places) (everyTwo placesApart (t .places)) .0 s in
+    let two = and-eq-true-iff (timerInRange (t .timer) && registrySound (t .registry)) places .0 (three .0) in
+    let one = and-eq-true-iff (timerInRange (t .timer)) (registrySound (t .registry)) .0 (two .0) in
+    record { timer = one .0; registry = one .1; places = two .1; apart = three .1 }
+
+pub sound-of : (t : Table) → SoundTable t → sound t ≡ true
+unfolding sound
+sound-of t s = rw (s .timer, s .registry, s .places, s .apart)
+
+pub record OpenPlace (registry : List Entry) (timer clock : ℕ) (p : Place) : Type 0 where
+  pub registered : kindOf registry (p .key .context .0) ≡ 0 → ⊥
+  pub reference : p .key .reference .0 ≤ referenceMost
+  pub instruction : p .instruction ≤ instructionMost
+  pub left : 1 ≤ p .remaining .0
+  pub most : p .remaining .0 ≤ 9
+  pub begun : 1 ≤ p .segments
+  pub count : p .segments + p .remaining .0 ≤ segmentsMost
+  pub octets : p .octets ≤ dataMost
+  pub address : addressSound (kindOf registry (p .key .context .0)) p ≡ true
+  pub young : age clock (p .start) < timer
+
+module _ (registry : List Entry) (timer clock : ℕ) (p : Place) where
+  pub open-parts : openSound registry timer clock p ≡ true → OpenPlace registry timer clock p
+  unfolding openSound
+  open-parts e =
+      let all = simp and-eq-true-iff at e in
+      record {
+        registered = eqb-false _ _ (not-true _ (all .0 .0 .0 .0 .0 .0 .0 .0 .0));
+        reference = leb-true _ _ (all .0 .0 .0 .0 .0 .0 .0 .0 .1);
+        instruction = leb-true _ _ (all .0 .0 .0 .0 .0 .0 .0 .1);
+        left = leb-true _ _ (all .0 .0 .0 .0 .0 .0 .1);
+        most = leb-true _ _ (all .0 .0 .0 .0 .0 .1);
+        begun = leb-true _ _ (all .0 .0 .0 .0 .1);
+        count = leb-true _ _ (all .0 .0 .0 .1);
+        octets = leb-true _ _ (all .0 .0 .1);
+        address = rw (all .0 .1 .0 .0, all .0 .1 .0 .1, all .0 .1 .1);
+        young = ltb-true _ _ (all .1);
+      }
+
+  pub open-of : OpenPlace registry timer clock p → openSound registry timer clock p ≡ true
+  unfolding openSound
+  open-of h =
+      rw (
+        ne-eqb _ _ (h .registered),
+        le-leb _ _ (h .reference),
+        le-leb _ _ (h .instruction),
+        le-leb _ _ (h .left),
+        le-leb _ _ (h .most),
+        le-leb _ _ (h .begun),
+        le-leb _ _ (h .count),
+        le-leb _ _ (h .octets),
+        h .address,
+        lt-ltb _ _ (h .young),
+      )
+
+pub free-sound : (registry : List Entry) (timer clock : ℕ) → placeSound registry timer clock freePlace ≡ true
+unfolding freeSound
+free-sound registry timer clock = refl
+
+zeros : (n m : ℕ) → every isZero (drop n (replicate m 0)) ≡ true
+zeros zero zero = refl
+zeros zero (suc m) = zeros zero m
+zeros (suc n) zero = refl
+zeros (suc n) (suc m) = zeros n m
+
+-- what is filled after n octets or fewer is zero after n
+pub filled-zero : (n m : ℕ) (l : List ℕ) → every isZero (drop n (take n l ++ replicate m 0)) ≡ true
+filled-zero zero m l = zeros zero m
+filled-zero (suc n) m [] = zeros (suc n) m
+filled-zero (suc n) m (x ∷ l) = filled-zero n m l
