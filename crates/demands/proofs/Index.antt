@@ -6,6 +6,7 @@ use Rattle.demands.specs.Demand3.{Demand3}
 use Rattle.demands.specs.Timer.{Timer}
 use Rattle.demands.specs.Soundness.{Sound}
 use Rattle.demands.specs.Bridge.{Keeps}
+use Rattle.demands.specs.Wrong as Wrong
 use Rattle.demands.proofs.Typed.{typed-opened, typed-kept}
 use Rattle.demands.proofs.Refused as Refused
 use Rattle.demands.proofs.Sound as Sound
@@ -13,6 +14,7 @@ use Rattle.demands.proofs.Return as Return
 use Rattle.demands.proofs.Kept as Kept
 use Rattle.demands.proofs.Timing as Timing
 use Rattle.demands.proofs.Bridge.{carried-over}
+use Rattle.demands.proofs.Rejected as Rejected
 
 -- demand 1: every call is answered, refusals by number and in order, and a refused call changes nothing
 pub demand-1 : Demand1 ours
@@ -44,3 +46,45 @@ pub record All (m : Machine) : Type 0 where
 
 pub of-code : (m : Machine) → Keeps m → All m
 of-code = carried-over All (record { one = demand-1; two = demand-2; three = demand-3; timed = timer; sound = soundness })
+
+-- the wrong machines, and the demand that each breaks
+pub record Rejections : Type 0 where
+  pub refuses : Demand2 Wrong.refuses → ⊥
+  pub losesAll : Demand2 Wrong.losesAll → ⊥
+  pub forgets : Demand2 Wrong.forgets → ⊥
+  pub savesFirst : Demand2 Wrong.savesFirst → ⊥
+  pub invents : Demand2 Wrong.invents → ⊥
+  pub invents3 : Demand3 Wrong.invents → ⊥
+  pub neverRefuses : Demand1 Wrong.neverRefuses → ⊥
+  pub swallows : Demand3 Wrong.swallows → ⊥
+  pub handsOutEarly : Demand3 Wrong.handsOutEarly → ⊥
+  pub losesNothing : Demand3 Wrong.losesNothing → ⊥
+  pub comparesNumbers : Demand3 Wrong.comparesNumbers → ⊥
+  pub comparesFilled : Demand3 Wrong.comparesFilled → ⊥
+  pub dropsRestart : Demand3 Wrong.dropsRestart → ⊥
+  pub countsSaved : Demand3 Wrong.countsSaved → ⊥
+  pub tellsLast : Demand3 Wrong.tellsLast → ⊥
+  pub startsAnew : Timer Wrong.startsAnew → ⊥
+  pub subtractsPlainly : Timer Wrong.subtractsPlainly → ⊥
+
+pub rejected : Rejections
+rejected =
+    record {
+      refuses = Rejected.rejects-refuses;
+      losesAll = Rejected.rejects-losesAll;
+      forgets = Rejected.rejects-forgets;
+      savesFirst = Rejected.rejects-savesFirst;
+      invents = Rejected.rejects-invents-2;
+      invents3 = Rejected.rejects-invents;
+      neverRefuses = Rejected.rejects-neverRefuses;
+      swallows = Rejected.rejects-swallows;
+      handsOutEarly = Rejected.rejects-handsOutEarly;
+      losesNothing = Rejected.rejects-losesNothing;
+      comparesNumbers = Rejected.rejects-comparesNumbers;
+      comparesFilled = Rejected.rejects-comparesFilled;
+      dropsRestart = Rejected.rejects-dropsRestart;
+      countsSaved = Rejected.rejects-countsSaved;
+      tellsLast = Rejected.rejects-tellsLast;
+      startsAnew = Rejected.rejects-startsAnew;
+      subtractsPlainly = Rejected.rejects-subtractsPlainly;
+    }

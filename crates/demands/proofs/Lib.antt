@@ -15,3 +15,4 @@ pub mod Sweeping
 pub mod Accepting
 pub mod Kept
 pub mod Timing
+pub mod Rejected

@@ -6,3 +6,4 @@ pub mod Demand3
 pub mod Timer
 pub mod Demand2
 pub mod Bridge
+pub mod Wrong
