@@ -4,6 +4,7 @@ use Rattle.demands.specs.Demand1.{Demand1}
 use Rattle.demands.specs.Demand2.{Demand2}
 use Rattle.demands.specs.Demand3.{Demand3}
 use Rattle.demands.specs.Timer.{Timer}
+use Rattle.demands.specs.Release.{Release}
 use Rattle.demands.specs.Soundness.{Sound}
 use Rattle.demands.specs.Bridge.{Keeps}
 use Rattle.demands.specs.Wrong as Wrong
@@ -13,6 +14,7 @@ use Rattle.demands.proofs.Sound as Sound
 use Rattle.demands.proofs.Return as Return
 use Rattle.demands.proofs.Kept as Kept
 use Rattle.demands.proofs.Timing as Timing
+use Rattle.demands.proofs.Releasing as Releasing
 use Rattle.demands.proofs.Bridge.{carried-over}
 use Rattle.demands.proofs.Rejected as Rejected
 
@@ -36,16 +38,21 @@ demand-3 = Kept.demand-3 typed-kept typed-opened
 pub timer : Timer ours
 timer = Timing.timer typed-kept typed-opened
 
+-- release: what is uncovered of an association is lost with cause 7 exactly at its release
+pub releasing : Release ours
+releasing = Releasing.releasing typed-kept typed-opened
+
 -- all of it, of any machine that keeps the contracts of the public calls
 pub record All (m : Machine) : Type 0 where
   pub one : Demand1 m
   pub two : Demand2 m
   pub three : Demand3 m
   pub timed : Timer m
+  pub released : Release m
   pub sound : Sound m
 
 pub of-code : (m : Machine) → Keeps m → All m
-of-code = carried-over All (record { one = demand-1; two = demand-2; three = demand-3; timed = timer; sound = soundness })
+of-code = carried-over All (record { one = demand-1; two = demand-2; three = demand-3; timed = timer; released = releasing; sound = soundness })
 
 -- the wrong machines, and the demand that each breaks
 pub record Rejections : Type 0 where
@@ -59,6 +66,7 @@ pub record Rejections : Type 0 where
   pub swallows : Demand3 Wrong.swallows → ⊥
   pub handsOutEarly : Demand3 Wrong.handsOutEarly → ⊥
   pub losesNothing : Demand3 Wrong.losesNothing → ⊥
+  pub releasesNothing : Release Wrong.releasesNothing → ⊥
   pub comparesNumbers : Demand3 Wrong.comparesNumbers → ⊥
   pub comparesFilled : Demand3 Wrong.comparesFilled → ⊥
   pub dropsRestart : Demand3 Wrong.dropsRestart → ⊥
@@ -80,6 +88,7 @@ rejected =
       swallows = Rejected.rejects-swallows;
       handsOutEarly = Rejected.rejects-handsOutEarly;
       losesNothing = Rejected.rejects-losesNothing;
+      releasesNothing = Rejected.rejects-releasesNothing;
       comparesNumbers = Rejected.rejects-comparesNumbers;
       comparesFilled = Rejected.rejects-comparesFilled;
       dropsRestart = Rejected.rejects-dropsRestart;

@@ -15,4 +15,5 @@ pub mod Sweeping
 pub mod Accepting
 pub mod Kept
 pub mod Timing
+pub mod Releasing
 pub mod Rejected

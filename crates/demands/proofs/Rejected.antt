@@ -30,8 +30,9 @@ use Rattle.demands.specs.Demand2.{Demand2, Sending, Sendable, RoundTrip,
 use Rattle.demands.specs.History.{after, covers}
 use Rattle.demands.specs.Demand3.{Demand3, Accounted, View, calls, opened, held}
 use Rattle.demands.specs.Timer.{Timer}
+use Rattle.demands.specs.Release.{Release}
 use Rattle.demands.specs.Wrong.{joining, unchanged, sweeping}
-use Rattle.demands.specs.Wrong.{refuses, losesAll, forgets, savesFirst, invents, neverRefuses, swallows, handsOutEarly, losesNothing}
+use Rattle.demands.specs.Wrong.{refuses, losesAll, forgets, savesFirst, invents, neverRefuses, swallows, handsOutEarly, losesNothing, releasesNothing}
 use Rattle.demands.specs.Wrong.{comparesNumbers, comparesFilled, dropsRestart, countsSaved, tellsLast, startsAnew, subtractsPlainly}
 
 -- THE FRAMES of the errors, with nothing changed, are ours: so each machine differs by its error alone
@@ -251,6 +252,14 @@ rejects-handsOutEarly d = let z : _≡_ {A = ℕ} 2048 0 = ap length (accounted 
 pub rejects-losesNothing : Demand3 losesNothing → ⊥
 unfolding step segment segmentChecks fieldsOf readingChecks sound openSound freeSound lineOf effectOf opening splice sameKey recordOctets recordFrom age release releaseChecks sweep covers
 rejects-losesNothing d = d .goes before registry 100 0 [] tt (Releases 9 all) (omega arith) .fair .0
+
+-- a first segment of association 9, and a release of 9 that makes no record of it
+pub rejects-releasesNothing : Release releasesNothing → ⊥
+unfolding step segment segmentChecks fieldsOf readingChecks sound openSound freeSound lineOf effectOf opening splice sameKey recordOctets recordFrom age release releaseChecks sweep after
+rejects-releasesNothing d =
+    absurd (true≢false (sym
+    (d .along before registry 100 0 (Arrives 9 m3 one ∷ []) (omega arith, tt)
+    .release 9 all refl (keyWith 5) .1 (refl, λ e. let z : _≡_ {A = ℕ} 1 0 = ap length e in omega arith))))
 
 -- after the second first segment the address 07 has a place open, and its record covered all that it had
 pub rejects-comparesNumbers : Demand3 comparesNumbers → ⊥

@@ -1,6 +1,6 @@
 -- The timer: ages on the clock are true ages, and a clock call loses exactly what is T old.
 use Prim.Native.Nat.{ℕ, suc, _+_, _-_, _%_, _≤_, _<_, _^_}
-use mathlib.Core.Path.{_≡_, refl, ap, ap₂, _∙_}
+use mathlib.Core.Path.{_≡_, refl, sym, ap, ap₂, _∙_}
 use mathlib.Core.Logic.{_↔_}
 use mathlib.Core.Bool.{Bool, true, false, _&&_, _||_, and-eq-true-iff}
 use mathlib.Core.List.{List, [], _∷_, _++_, map, append-nil}
@@ -36,7 +36,7 @@ use Rattle.rules.proofs.Held.{open-is, places-sound}
 use Rattle.demands.specs.Machine.{ours, All, InRange, Typed}
 use Rattle.demands.specs.History.{Segment, Told, filed, settled, with, recordsIn, keyIn, segmentIn, arrived, restarts, nextOf, after}
 use Rattle.demands.specs.Demand3.{View, viewOf, heldFrom, held, owing, Now, call, calls, opened}
-use Rattle.demands.specs.Timer.{timedOut, isOld, ticksAfter, Timed, Timer}
+use Rattle.demands.specs.Timer.{lostBy, isOld, ticksAfter, Timed, Timer}
 use Rattle.demands.proofs.ByLine.{line-cases}
 use Rattle.demands.proofs.Sweeping.{losses}
 use Rattle.demands.proofs.Accepting.{refused-number, arrives, key-fits, sharp-clock, clock-good, release-good}
@@ -105,29 +105,38 @@ young-held registry timer clock store k i (p ∷ ps) e =
     go true h q ih = simp (open-young registry timer clock p (open-is registry timer clock p q (and-eq-true-iff (isOpen p) (sameKey (p .key) k) .0 h .0)), ih)
     go false h q ih = ih
 
-anyOld : ℕ → ℕ → List View → Bool
-anyOld timer time [] = false
-anyOld timer time (w ∷ ws) = leb timer (age time (w .start)) || anyOld timer time ws
-
--- the places that are due are those whose views are T old
-due-is : (timer time : ℕ) (store : List ℕ) (k : Key) (i : ℕ) (ps : List Place) → timedOut k (losses (isDue time timer) 6 ps) ≡ anyOld timer time (heldFrom store k i ps)
-unfolding anyOld
-due-is timer time store k i [] = refl
-due-is timer time store k i (p ∷ ps) = go (isOpen p) (leb timer (age time (p .start))) (sameKey (p .key) k) refl refl (due-is timer time store k (suc i) ps)
-  where
-    go : (o d s : Bool) → leb timer (age time (p .start)) ≡ d → sameKey (p .key) k ≡ s → timedOut k (losses (isDue time timer) 6 ps) ≡ anyOld timer time (heldFrom store k (suc i) ps)
-        → timedOut k (map (lossOf 6) (if o && d then p ∷ those (isDue time timer) ps else those (isDue time timer) ps))
-        ≡ anyOld timer time (if o && sameKey (p .key) k then viewOf store i p ∷ heldFrom store k (suc i) ps else heldFrom store k (suc i) ps)
-    go false d s e q ih = ih
-    go true true true e q ih = simp (e, q)
-    go true true false e q ih = simp q ih
-    go true false true e q ih = simp (e, q) ih
-    go true false false e q ih = simp q ih
-
-clash : {A : Type 0} → false ≡ true → A
+pub clash : {A : Type 0} → false ≡ true → A
 clash e = absurd (let z : _≡_ {A = ℕ} 0 1 = cc in omega arith)
 
-ticks-accepted : (st : State) (time : ℕ) (report : List ℕ) → step st (Ticks time report) .answer .refusal ≡ 0 → accepted (clockChecks (st .table) report time) ≡ true
+unfoldable pub anyOf : (View → Bool) → List View → Bool
+anyOf seen [] = false
+anyOf seen (w ∷ ws) = seen w || anyOf seen ws
+
+-- a sweep loses a key exactly where what is held of it passes the test
+pub swept-is : (cause : ℕ) → eqb cause cause ≡ true → (test : Place → Bool) (seen : View → Bool) (store : List ℕ) (k : Key)
+    → ((i : ℕ) (p : Place) → sameKey (p .key) k ≡ true → test p ≡ (isOpen p && seen (viewOf store i p)))
+    → (i : ℕ) (ps : List Place) → lostBy cause k (losses test cause ps) ≡ anyOf seen (heldFrom store k i ps)
+unfolding anyOf
+swept-is cause own test seen store k fits i [] = refl
+swept-is cause own test seen store k fits i (p ∷ ps) =
+    go (test p) (isOpen p) (sameKey (p .key) k) (seen (viewOf store i p)) refl refl (fits i p) (swept-is cause own test seen store k fits (suc i) ps)
+  where
+    go : (b o s d : Bool) → sameKey (p .key) k ≡ s → seen (viewOf store i p) ≡ d → (s ≡ true → b ≡ (o && d))
+        → lostBy cause k (losses test cause ps) ≡ anyOf seen (heldFrom store k (suc i) ps)
+        → lostBy cause k (map (lossOf cause) (if b then p ∷ those test ps else those test ps))
+        ≡ anyOf seen (if o && s then viewOf store i p ∷ heldFrom store k (suc i) ps else heldFrom store k (suc i) ps)
+    go true true false d q e f ih = simp q ih
+    go true false false d q e f ih = simp q ih
+    go false true false d q e f ih = ih
+    go false false false d q e f ih = ih
+    go true true true true q e f ih = simp (q, own, e)
+    go false true true false q e f ih = simp e ih
+    go false false true d q e f ih = ih
+    go true true true false q e f ih = clash (sym (f refl))
+    go false true true true q e f ih = clash (f refl)
+    go true false true d q e f ih = clash (sym (f refl))
+
+pub ticks-accepted : (st : State) (time : ℕ) (report : List ℕ) → step st (Ticks time report) .answer .refusal ≡ 0 → accepted (clockChecks (st .table) report time) ≡ true
 unfolding step clock
 ticks-accepted st time report = go (accepted (clockChecks (st .table) report time)) refl
   where
@@ -140,6 +149,10 @@ ticks-accepted st time report = go (accepted (clockChecks (st .table) report tim
 timer-most : (t : Table) → sound t ≡ true → t .timer ≤ 1000000
 unfolding sound
 timer-most t s = leb-true (t .timer) 1000000 ((simp and-eq-true-iff at s) .0 .0 .0 .1)
+
+-- a view is T old
+abbrev olds : ℕ → ℕ → View → Bool
+olds timer time w = leb timer (age time (w .start))
 
 module _ (n : Now) (inv : Inv (n .state) (n .told)) (timely : Timely (n .told)) where
   abbrev h : Told
@@ -166,7 +179,7 @@ module _ (n : Now) (inv : Inv (n .state) (n .told)) (timely : Timely (n .told)) 
   ticks-good : (time : ℕ) (report : List ℕ) → step (n .state) (Ticks time report) .answer .refusal ≡ 0 → (sound t ≡ true) × (reportLeast ≤ length report) × (age time (t .clock) < 2 ^ 31)
   ticks-good time report z = clock-good t report time (ticks-accepted (n .state) time report z)
 
-  ticks-records : (time : ℕ) (report : List ℕ) → accepted (clockChecks t report time) ≡ true → recordsIn (step (n .state) (Ticks time report) .answer) ≡ losses (isDue time (t .timer)) 6 (t .places)
+  pub ticks-records : (time : ℕ) (report : List ℕ) → accepted (clockChecks t report time) ≡ true → recordsIn (step (n .state) (Ticks time report) .answer) ≡ losses (isDue time (t .timer)) 6 (t .places)
   unfolding step clock sweep
   ticks-records time report e =
       let c = clock-good t report time e in
@@ -196,8 +209,8 @@ module _ (n : Now) (inv : Inv (n .state) (n .told)) (timely : Timely (n .told)) 
       go true e = next-timely c r (eqb-true (step (n .state) c .answer .refusal) 0 e)
       go false e = timely
 
-  old-is : (time : ℕ) (l : List Segment) → Early time (ticksAfter h time) l → (anyOld (h .timer) time (owing l) ≡ true) ↔ isOld (h .timer) (ticksAfter h time) l
-  unfolding anyOld
+  old-is : (time : ℕ) (l : List Segment) → Early time (ticksAfter h time) l → (anyOf (olds (h .timer) time) (owing l) ≡ true) ↔ isOld (h .timer) (ticksAfter h time) l
+  unfolding anyOf
   old-is time [] e = (λ z. clash z, λ z. absurd z)
   old-is time (x ∷ l) e =
       let a = e .2 in
@@ -208,13 +221,13 @@ module _ (n : Now) (inv : Inv (n .state) (n .told)) (timely : Timely (n .told)) 
       or-false false q = q
 
   clock-timed : (time : ℕ) (report : List ℕ) → time < 2 ^ 32 → step (n .state) (Ticks time report) .answer .refusal ≡ 0 → (k : Key)
-      → (timedOut k (recordsIn (step (n .state) (Ticks time report) .answer)) ≡ true) ↔ isOld (h .timer) (ticksAfter h time) (h .uncovered k)
+      → (lostBy 6 k (recordsIn (step (n .state) (Ticks time report) .answer)) ≡ true) ↔ isOld (h .timer) (ticksAfter h time) (h .uncovered k)
   unfolding held
   clock-timed time report b z k =
       let c = ticks-good time report z in
-      let e : timedOut k (recordsIn (step (n .state) (Ticks time report) .answer)) ≡ anyOld (h .timer) time (owing (h .uncovered k)) =
-      ap (timedOut k) (ticks-records time report (ticks-accepted (n .state) time report z)) ∙ due-is (t .timer) time (n .state .store) k 0 (t .places)
-      ∙ ap₂ (λ (m : ℕ) (l : List View). anyOld m time l) (inv .link (c .0) .timer) (inv .exact k) in
+      let e : lostBy 6 k (recordsIn (step (n .state) (Ticks time report) .answer)) ≡ anyOf (olds (h .timer) time) (owing (h .uncovered k)) =
+      ap (lostBy 6 k) (ticks-records time report (ticks-accepted (n .state) time report z)) ∙ swept-is 6 refl (isDue time (t .timer)) (olds (t .timer) time) (n .state .store) k (λ i p e. refl) 0 (t .places)
+      ∙ ap₂ (λ (m : ℕ) (l : List View). anyOf (olds m time) l) (inv .link (c .0) .timer) (inv .exact k) in
       rw e (old-is time (h .uncovered k) (older time b (c .0) (c .2) k))
 
 -- No other call gives cause 6
@@ -223,18 +236,18 @@ and-false : (b : Bool) → (b && false) ≡ false
 and-false true = refl
 and-false false = refl
 
-losses-timed : (test : Place → Bool) (cause : ℕ) → eqb cause 6 ≡ false → (k : Key) (ps : List Place) → timedOut k (losses test cause ps) ≡ false
-losses-timed test cause e k [] = refl
-losses-timed test cause e k (p ∷ ps) = go (test p) (losses-timed test cause e k ps)
+pub losses-timed : (test : Place → Bool) (cause other : ℕ) → eqb cause other ≡ false → (k : Key) (ps : List Place) → lostBy other k (losses test cause ps) ≡ false
+losses-timed test cause other e k [] = refl
+losses-timed test cause other e k (p ∷ ps) = go (test p) (losses-timed test cause other e k ps)
   where
-    go : (b : Bool) → timedOut k (losses test cause ps) ≡ false → timedOut k (map (lossOf cause) (if b then p ∷ those test ps else those test ps)) ≡ false
+    go : (b : Bool) → lostBy other k (losses test cause ps) ≡ false → lostBy other k (map (lossOf cause) (if b then p ∷ those test ps else those test ps)) ≡ false
     go true ih = simp (e, and-false (sameKey (p .key) k)) ih
     go false ih = ih
 
--- at most one record, of another cause
+-- at most one record, of a cause below 6
 abbrev Calm : List Record → Type 0
 Calm [] = Unit {0}
-Calm (r ∷ []) = (length (r .key .address) ≡ addressMost) × (eqb (r .cause) 6 ≡ false)
+Calm (r ∷ []) = (length (r .key .address) ≡ addressMost) × (r .cause < 6)
 Calm (r ∷ q ∷ rs) = ⊥
 
 own-cause : (r : Record) → recordFrom (recordOctets r) .cause ≡ r .cause
@@ -247,10 +260,11 @@ cause-back r report a h =
     let l = record-length r a in
     rw (append-nil (recordOctets r), splice-is report 0 (recordOctets r) (omega arith), take-at (recordOctets r) (drop (0 + length (recordOctets r)) report) recordLength l) (own-cause r)
 
-calm-timed : (k : Key) (rs : List Record) (report : List ℕ) → Calm rs → recordLength ≤ length report → timedOut k (recordsFrom (length rs) (splice report 0 (recordsOctets rs))) ≡ false
-calm-timed k [] report c h = refl
-calm-timed k (r ∷ []) report c h = rw (cause-back r report (c .0) h, c .1) (rw (and-false (sameKey (recordFrom (take recordLength (splice report 0 (recordOctets r ++ []))) .key) k)) refl)
-calm-timed k (r ∷ q ∷ rs) report c h = absurd c
+calm-timed : (cause : ℕ) → 6 ≤ cause → (k : Key) (rs : List Record) (report : List ℕ) → Calm rs → recordLength ≤ length report
+    → lostBy cause k (recordsFrom (length rs) (splice report 0 (recordsOctets rs))) ≡ false
+calm-timed cause b k [] report c h = refl
+calm-timed cause b k (r ∷ []) report c h = rw (cause-back r report (c .0) h, ne-eqb (r .cause) cause (let l = c .1 in omega arith)) (rw (and-false (sameKey (recordFrom (take recordLength (splice report 0 (recordOctets r ++ []))) .key) k)) refl)
+calm-timed cause b k (r ∷ q ∷ rs) report c h = absurd c
 
 calm-effect : (t : Table) (store : List ℕ) (k : Key) (f : Fields) (octets : List ℕ) (place : Found) (p : Place) (room : Found) (isOpen : Bool) (before saved size : ℕ)
     → length (k .address) ≡ addressMost
@@ -258,20 +272,20 @@ calm-effect : (t : Table) (store : List ℕ) (k : Key) (f : Fields) (octets : Li
 unfolding effectOf
 calm-effect t store k f octets place p room isOpen before saved size a =
     line-cases (λ (line : Line). Calm (effectOf line t store k f octets place p room .records)) isOpen before saved (f .heading) size
-    (λ e. (a, refl)) (λ cause l e. (a, ne-eqb cause 6 (omega arith))) (λ e o. (a, refl)) (λ e o. tt) (λ e o l. (a, refl)) (λ e o l. tt)
+    (λ e. (a, omega arith)) (λ cause l e. (a, l)) (λ e o. (a, omega arith)) (λ e o. tt) (λ e o l. (a, omega arith)) (λ e o l. tt)
 
-segment-timed : (st : State) (association : ℕ) (s report : List ℕ) (k : Key) → timedOut k (recordsIn (step st (Arrives association s report) .answer)) ≡ false
+pub segment-timed : (cause : ℕ) → 6 ≤ cause → (st : State) (association : ℕ) (s report : List ℕ) (k : Key) → lostBy cause k (recordsIn (step st (Arrives association s report) .answer)) ≡ false
 unfolding step segment
-segment-timed st association s report k = go (accepted (segmentChecks (st .table) (st .store) report association s)) refl
+segment-timed cause b st association s report k = go (accepted (segmentChecks (st .table) (st .store) report association s)) refl
   where
-    go : (b : Bool) → accepted (segmentChecks (st .table) (st .store) report association s) ≡ b
-        → (let o : Reception = if b then receivedAt (st .table) (st .store) report association s
+    go : (c : Bool) → accepted (segmentChecks (st .table) (st .store) report association s) ≡ c
+        → (let o : Reception = if c then receivedAt (st .table) (st .store) report association s
         else record {
           answer = record { table = st .table; decision = Refused; refusal = first (segmentChecks (st .table) (st .store) report association s); records = 0 };
           store = st .store;
           report = report;
         } in
-        timedOut k (recordsFrom (o .answer .records) (o .report)) ≡ false)
+        lostBy cause k (recordsFrom (o .answer .records) (o .report)) ≡ false)
     go true e =
         let c = arrives (st .table) (st .store) report association s e in
         let t : Table = st .table in
@@ -281,29 +295,29 @@ segment-timed st association s report k = go (accepted (segmentChecks (st .table
         let place : Found = placeOf key (t .places) in
         let p : Place = placeAt (t .places) place in
         let room : Found = lowestFree (t .places) in
-        calm-timed k (effectOf (lineAt t key (f .heading) (length octets)) t (st .store) key f octets place p room .records) report
+        calm-timed cause b k (effectOf (lineAt t key (f .heading) (length octets)) t (st .store) key f octets place p room .records) report
         (calm-effect t (st .store) key f octets place p room (isAt place) (p .remaining .0) (p .octets) (length octets) (key-fits (t .registry) s (c .reads) 0 (omega arith) .address))
         (c .long)
     go false e = refl
 
-release-timed : (n : Now) → Inv (n .state) (n .told) → (association : ℕ) (report : List ℕ) (k : Key) → timedOut k (recordsIn (step (n .state) (Releases association report) .answer)) ≡ false
+release-timed : (n : Now) → Inv (n .state) (n .told) → (association : ℕ) (report : List ℕ) (k : Key) → lostBy 6 k (recordsIn (step (n .state) (Releases association report) .answer)) ≡ false
 unfolding step release sweep
 release-timed n inv association report k = go (accepted (releaseChecks (n .state .table) report)) refl
   where
     go : (b : Bool) → accepted (releaseChecks (n .state .table) report) ≡ b
         → (let o : Sweeping = if b then sweep (isOf association) 7 (n .state .table .clock) (n .state .table) report
         else unswept (n .state .table) report (first (releaseChecks (n .state .table) report)) in
-        timedOut k (recordsFrom (o .answer .records) (o .report)) ≡ false)
+        lostBy 6 k (recordsFrom (o .answer .records) (o .report)) ≡ false)
     go true e =
         let c = release-good (n .state .table) report e in
         rw (sweep-back n inv report (isOf association) (λ p q. and-eq-true-iff (isOpen p) (eqb (p .key .association) association) .0 q .0) 7 (c .0) (c .1))
-        (losses-timed (isOf association) 7 refl k (n .state .table .places))
+        (losses-timed (isOf association) 7 6 refl k (n .state .table .places))
     go false e = refl
 
 module _ (typed-kept : (st : State) (c : Call) → Typed (st .table) → InRange c → Typed (step st c .state .table))
     (typed-opened : (st : State) (registry : List ℕ) (timer time : ℕ) → Typed (step st (Opens registry timer time) .state .table)) where
   timed-calls : (n : Now) → Inv (n .state) (n .told) → Timely (n .told) → (cs : List Call) → All InRange cs → Timed ours (calls ours n cs)
-  timed-calls n inv timely [] r = record { clock = clock-timed n inv timely; segment = segment-timed (n .state); release = release-timed n inv }
+  timed-calls n inv timely [] r = record { clock = clock-timed n inv timely; segment = segment-timed 6 (omega arith) (n .state); release = release-timed n inv }
   timed-calls n inv timely (c ∷ cs) r = timed-calls (call ours n c) (inv-call typed-kept typed-opened n inv c (r .0)) (timely-call n inv timely c (r .0)) cs (r .1)
 
   pub timer : Timer ours

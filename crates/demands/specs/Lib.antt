@@ -4,6 +4,7 @@ pub mod Soundness
 pub mod History
 pub mod Demand3
 pub mod Timer
+pub mod Release
 pub mod Demand2
 pub mod Bridge
 pub mod Wrong

@@ -15,10 +15,10 @@ use Rattle.demands.specs.Machine.{Machine, InRange, All}
 use Rattle.demands.specs.History.{Segment, Told, recordsIn}
 use Rattle.demands.specs.Demand3.{Now, calls, opened}
 
--- a record of a key with cause 6 is among them
-abbrev pub timedOut : Key → List Record → Bool
-timedOut k [] = false
-timedOut k (r ∷ rs) = if sameKey (r .key) k && eqb (r .cause) 6 then true else timedOut k rs
+-- a record of a key with a cause is among them
+abbrev pub lostBy : ℕ → Key → List Record → Bool
+lostBy cause k [] = false
+lostBy cause k (r ∷ rs) = if sameKey (r .key) k && eqb (r .cause) cause then true else lostBy cause k rs
 
 -- the true age of a sequence at so many ticks, none where nothing is uncovered
 abbrev pub isOld : ℕ → ℕ → List Segment → Type 0
@@ -32,10 +32,10 @@ ticksAfter h time = h .ticks + age time (h .time)
 pub record Timed (m : Machine) (n : Now) : Type 0 where
   -- at an accepted clock call: lost with cause 6 exactly where the true age is T or more
   pub clock : (time : ℕ) (report : List ℕ) → time < 2 ^ 32 → m .step (n .state) (Ticks time report) .answer .refusal ≡ 0 → (k : Key)
-      → (timedOut k (recordsIn (m .step (n .state) (Ticks time report) .answer)) ≡ true) ↔ isOld (n .told .timer) (ticksAfter (n .told) time) (n .told .uncovered k)
+      → (lostBy 6 k (recordsIn (m .step (n .state) (Ticks time report) .answer)) ≡ true) ↔ isOld (n .told .timer) (ticksAfter (n .told) time) (n .told .uncovered k)
   -- no other call gives cause 6
-  pub segment : (association : ℕ) (s report : List ℕ) (k : Key) → timedOut k (recordsIn (m .step (n .state) (Arrives association s report) .answer)) ≡ false
-  pub release : (association : ℕ) (report : List ℕ) (k : Key) → timedOut k (recordsIn (m .step (n .state) (Releases association report) .answer)) ≡ false
+  pub segment : (association : ℕ) (s report : List ℕ) (k : Key) → lostBy 6 k (recordsIn (m .step (n .state) (Arrives association s report) .answer)) ≡ false
+  pub release : (association : ℕ) (report : List ℕ) (k : Key) → lostBy 6 k (recordsIn (m .step (n .state) (Releases association report) .answer)) ≡ false
 
 pub record Timer (m : Machine) : Type 0 where
   pub along : (st : State) (registry : List ℕ) (timer time : ℕ) → time < 2 ^ 32 → (cs : List Call) → All InRange cs

@@ -138,6 +138,10 @@ losesNothing = whereAccepted (onRelease (λ st association report.
     let o : Outcome = step st (Releases association report) in
     if eqb (o .answer .records) 0 then outcome (reporting (o .answer) (emptyLoss association ∷ [])) (o .state) else o))
 
+-- a release ends nothing: accepted, and no record
+abbrev pub releasesNothing : Machine
+releasesNothing = whereAccepted (onRelease (λ st association report. outcome (nothing 0 (Releases association report)) st))
+
 -- THE ERRORS OF BOUGHT SOFTWARE
 
 -- the calls of a segment, as the rules have them but for two things: how the place of a key is found, and what is made of its effect
