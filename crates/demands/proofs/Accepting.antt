@@ -1,17 +1,17 @@
 -- What an accepted call's checks say.
 use Prim.Native.Nat.{ℕ, _+_, _*_, _%_, _≤_, _<_, _^_}
-use mathlib.Core.Path.{_≡_, refl, sym, _∙_}
+use mathlib.Core.Path.{_≡_, refl}
 use mathlib.Core.Bool.{Bool, true, false, not, _&&_, and-eq-true-iff, Bool·beq}
 use mathlib.Core.List.{List, [], _∷_, _++_}
 use native.Mathlib.Omega.{arith}
 use borrow.Author.Tests.{ltb-false, leb-false, not-true}
-use lib.Dec.{eqb, leb, ltb}
+use lib.Dec.{leb, ltb}
 use lib.ListN.{length, take, drop, length-append, length-take, length-replicate}
 use Rattle.rules.specs.General.{if_then_else_}
 use Rattle.rules.specs.Numbers.{parameterMost, addressMost, storeLeast, age}
-use Rattle.rules.specs.Refusals.{Check, _when_, accepted, first}
+use Rattle.rules.specs.Refusals.{Check, _when_, accepted}
 use Rattle.rules.specs.Registry.{kindOf}
-use Rattle.rules.specs.Layout.{octet, contextOf, has1a, has3a, isAlone, isNew, remainingOf, at2, at3, originAt, pastAddress, hasAddresses, fieldsOf, lastChecks, contextChecks, sequenceChecks, addressChecks, addressesChecks, readingChecks}
+use Rattle.rules.specs.Layout.{octet, contextOf, has1a, has3a, isAlone, isNew, remainingOf, at2, at3, originAt, fieldsOf, lastChecks, contextChecks, sequenceChecks, addressesChecks, readingChecks}
 use Rattle.rules.specs.Records.{recordLength, zeroFilled}
 use Rattle.rules.specs.Places.{lowestFree, isAt}
 use Rattle.rules.specs.Soundness.{sound}
@@ -20,46 +20,12 @@ use Rattle.rules.specs.Sweep.{reportLeast, clockChecks, releaseChecks}
 use Rattle.rules.specs.declared.Entry.{Entry}
 use Rattle.rules.specs.declared.Table.{Table}
 use Rattle.rules.specs.declared.Fields.{Fields}
-use Rattle.rules.proofs.Refusals.{Sharp, accepted-append, first-accepted}
+use Rattle.rules.proofs.Refusals.{accepted-both}
 use Rattle.rules.proofs.Reading.{address-short}
 use Rattle.demands.proofs.Settling.{KeyFits}
 
-both : (xs ys : List Check) → accepted (xs ++ ys) ≡ true → (accepted xs ≡ true) × (accepted ys ≡ true)
-both xs ys e = and-eq-true-iff (accepted xs) (accepted ys) .0 (sym (accepted-append xs ys) ∙ e)
-
--- a refused call's number is not 0
-pub refused-number : (cs : List Check) → Sharp cs → accepted cs ≡ false → first cs ≡ 0 → ⊥
-refused-number cs sharp e z = let t = first-accepted cs sharp z in let y : _≡_ {A = ℕ} 0 1 = cc in omega arith
-
-sharp-append : (xs ys : List Check) → Sharp xs → Sharp ys → Sharp (xs ++ ys)
-sharp-append [] ys a b = b
-sharp-append (x ∷ xs) ys a b = (a .0, sharp-append xs ys (a .1) b)
-
-sharp-if : (b : Bool) (xs : List Check) → Sharp xs → Sharp (if b then xs else [])
-sharp-if true xs a = a
-sharp-if false xs a = tt
-
-sharp-last : (s : List ℕ) (at : ℕ) → Sharp (lastChecks s at)
-sharp-last s at = (λ e. omega arith, (λ e. omega arith, tt))
-
-sharp-address : (s : List ℕ) (at : ℕ) → Sharp (addressChecks s at)
-sharp-address s at = (λ e. omega arith, (λ e. omega arith, (λ e. omega arith, tt)))
-
-sharp-context : (registry : List Entry) (s : List ℕ) → Sharp (contextChecks registry s)
-sharp-context registry s =
-    sharp-append ((5 when leb (length s) 0 ∷ []) ++ (if has1a s then lastChecks s 1 else [])) (8 when eqb (kindOf registry (contextOf s)) 0 ∷ [])
-    (sharp-append (5 when leb (length s) 0 ∷ []) (if has1a s then lastChecks s 1 else []) (λ e. omega arith, tt) (sharp-if (has1a s) (lastChecks s 1) (sharp-last s 1)))
-    (λ e. omega arith, tt)
-
 abbrev seven : List ℕ → ℕ → Check
 seven s at = 7 when Bool·beq (has3a (octet s at)) (isAlone (isNew (octet s at)) (remainingOf (octet s at)))
-
-sharp-sequence : (s : List ℕ) (at : ℕ) → Sharp (sequenceChecks s at)
-sharp-sequence s at =
-    sharp-append ((5 when leb (length s) at ∷ []) ++ (if has3a (octet s at) then lastChecks s (at + 1) else [])) (seven s at ∷ [])
-    (sharp-append (5 when leb (length s) at ∷ []) (if has3a (octet s at) then lastChecks s (at + 1) else []) (λ e. omega arith, tt)
-    (sharp-if (has3a (octet s at)) (lastChecks s (at + 1)) (sharp-last s (at + 1))))
-    (λ e. omega arith, tt)
 
 module _ (registry : List Entry) (s : List ℕ) where
   abbrev kind : ℕ
@@ -71,16 +37,6 @@ module _ (registry : List Entry) (s : List ℕ) where
   abbrev addresses : List Check
   addresses = addressesChecks kind s (originAt s)
 
-  sharp-reading : Sharp (readingChecks registry s)
-  unfolding readingChecks
-  sharp-reading =
-      sharp-append (four ++ contextChecks registry s ++ lastChecks s (at2 s) ++ sequenceChecks s (at3 s)) addresses
-      (sharp-append (four ++ contextChecks registry s ++ lastChecks s (at2 s)) (sequenceChecks s (at3 s))
-      (sharp-append (four ++ contextChecks registry s) (lastChecks s (at2 s))
-      (sharp-append four (contextChecks registry s) (λ e. omega arith, tt) (sharp-context registry s)) (sharp-last s (at2 s))) (sharp-sequence s (at3 s)))
-      (sharp-if (hasAddresses kind) (addressChecks s (originAt s) ++ addressChecks s (pastAddress s (originAt s)))
-      (sharp-append (addressChecks s (originAt s)) (addressChecks s (pastAddress s (originAt s))) (sharp-address s (originAt s)) (sharp-address s (pastAddress s (originAt s)))))
-
   module _ (e : accepted (readingChecks registry s) ≡ true) where
     -- an unsegmented parameter has the reference 255
     pub alone-reference : isAlone (fieldsOf registry s .heading .new) (fieldsOf registry s .heading .remaining .0) ≡ true → fieldsOf registry s .heading .reference .0 ≡ 255
@@ -89,11 +45,11 @@ module _ (registry : List Entry) (s : List ℕ) where
       where
         heads : accepted (sequenceChecks s (at3 s)) ≡ true
         heads =
-            both (four ++ contextChecks registry s ++ lastChecks s (at2 s)) (sequenceChecks s (at3 s))
-            (both (four ++ contextChecks registry s ++ lastChecks s (at2 s) ++ sequenceChecks s (at3 s)) addresses e .0) .1
+            accepted-both (four ++ contextChecks registry s ++ lastChecks s (at2 s)) (sequenceChecks s (at3 s))
+            (accepted-both (four ++ contextChecks registry s ++ lastChecks s (at2 s) ++ sequenceChecks s (at3 s)) addresses e .0) .1
 
         seventh : accepted (seven s (at3 s) ∷ []) ≡ true
-        seventh = both ((5 when leb (length s) (at3 s) ∷ []) ++ (if has3a (octet s (at3 s)) then lastChecks s (at3 s + 1) else [])) (seven s (at3 s) ∷ []) heads .1
+        seventh = accepted-both ((5 when leb (length s) (at3 s) ∷ []) ++ (if has3a (octet s (at3 s)) then lastChecks s (at3 s + 1) else [])) (seven s (at3 s) ∷ []) heads .1
 
         go : (b : Bool) → not (Bool·beq b (isAlone (isNew (octet s (at3 s))) (remainingOf (octet s (at3 s))))) ≡ true → (if b then octet s (at3 s + 1) % 128 else 255) ≡ 255
         go true q = let z : false ≡ true = simp a at q in absurd (let y : _≡_ {A = ℕ} 0 1 = cc in omega arith)
@@ -137,8 +93,8 @@ arrives t store report association s e =
     let f : Fields = fieldsOf (t .registry) s in
     let three : List Check = (1 when not (sound t) ∷ 2 when ltb (length store) storeLeast ∷ 3 when ltb (length report) recordLength ∷ []) in
     let ten : List Check = (10 when (isStart (lineAt t (keyOf association s f) (f .heading) (length (informationOf s f))) && not (isAt (lowestFree (t .places)))) ∷ []) in
-    let a = both (three ++ readingChecks (t .registry) s) ten e in
-    let b = both three (readingChecks (t .registry) s) (a .0) in
+    let a = accepted-both (three ++ readingChecks (t .registry) s) ten e in
+    let b = accepted-both three (readingChecks (t .registry) s) (a .0) in
     let c = simp and-eq-true-iff at (b .0) in
     record {
       good = not-not (sound t) (c .0);
@@ -147,24 +103,6 @@ arrives t store report association s e =
       reads = b .1;
       room = not-true _ (and-eq-true-iff _ _ .0 (a .1) .0);
     }
-
-pub sharp-segment : (t : Table) (store report : List ℕ) (association : ℕ) (s : List ℕ) → Sharp (segmentChecks t store report association s)
-unfolding segmentChecks
-sharp-segment t store report association s =
-    let f : Fields = fieldsOf (t .registry) s in
-    let three : List Check = (1 when not (sound t) ∷ 2 when ltb (length store) storeLeast ∷ 3 when ltb (length report) recordLength ∷ []) in
-    let ten : List Check = (10 when (isStart (lineAt t (keyOf association s f) (f .heading) (length (informationOf s f))) && not (isAt (lowestFree (t .places)))) ∷ []) in
-    sharp-append (three ++ readingChecks (t .registry) s) ten
-    (sharp-append three (readingChecks (t .registry) s) (λ e. omega arith, (λ e. omega arith, (λ e. omega arith, tt))) (sharp-reading (t .registry) s))
-    (λ e. omega arith, tt)
-
-pub sharp-clock : (t : Table) (report : List ℕ) (time : ℕ) → Sharp (clockChecks t report time)
-unfolding clockChecks
-sharp-clock t report time = (λ e. omega arith, (λ e. omega arith, (λ e. omega arith, tt)))
-
-pub sharp-release : (t : Table) (report : List ℕ) → Sharp (releaseChecks t report)
-unfolding releaseChecks
-sharp-release t report = (λ e. omega arith, (λ e. omega arith, tt))
 
 pub clock-good : (t : Table) (report : List ℕ) (time : ℕ) → accepted (clockChecks t report time) ≡ true
     → (sound t ≡ true) × (reportLeast ≤ length report) × (age time (t .clock) < 2 ^ 31)

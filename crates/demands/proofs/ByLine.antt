@@ -1,17 +1,21 @@
--- What holds of the line of a segment holds of every line, each with what led to it.
+-- The lines of a segment, by whether it begins a sequence.
 use Prim.Native.Nat.{ℕ, _+_, _≤_, _<_}
 use mathlib.Core.Path.{_≡_, refl}
-use mathlib.Core.Bool.{Bool, true, false, not, _&&_}
+use mathlib.Core.Bool.{Bool, true, false, _&&_}
 use native.Mathlib.Omega.{arith}
-use borrow.Author.Tests.{ltb-true, ltb-false, le-leb, lt-leb}
-use lib.Dec.{eqb, leb, ltb}
-use Rattle.rules.specs.General.{if_then_else_}
+use borrow.Author.Tests.{le-leb, lt-leb}
+use lib.Dec.{leb}
 use Rattle.rules.specs.Numbers.{dataMost}
 use Rattle.rules.specs.Layout.{isAlone}
 use Rattle.rules.specs.Receiving.{lineOf}
+use Rattle.rules.proofs.Lines as Lines
 use Rattle.rules.specs.declared.Heading.{Heading}
 use Rattle.rules.specs.declared.Line.{Line}
 use Rattle.rules.specs.declared.Line.the-variants.{Unsegmented, Broken, Restart, Start, Final, Next}
+
+pub and-false : (b : Bool) → (b && false) ≡ false
+and-false true = refl
+and-false false = refl
 
 -- a new segment with up to 9 remaining: one that begins a sequence
 abbrev pub begins : Heading → Bool
@@ -25,35 +29,16 @@ pub line-cases : (P : Line → Type 0) (isOpen : Bool) (before saved : ℕ) (g :
     → (begins g ≡ false → isOpen ≡ true → saved + n ≤ dataMost → P Final)
     → (begins g ≡ false → isOpen ≡ true → saved + n ≤ dataMost → P Next)
     → P (lineOf isOpen before saved g n)
-unfolding lineOf
 line-cases P isOpen before saved g n alone broken restart start final next =
-    go (isAlone (g .new) (g .remaining .0)) (ltb 9 (g .remaining .0)) (g .new) isOpen (eqb (g .remaining .0 + 1) before) (ltb dataMost (saved + n)) (eqb (g .remaining .0) 0) refl refl refl refl refl
-  where
-    far : ltb 9 (g .remaining .0) ≡ true → leb (g .remaining .0) 9 ≡ false
-    far e = lt-leb (g .remaining .0) 9 (ltb-true 9 (g .remaining .0) e)
-
-    near : ltb 9 (g .remaining .0) ≡ false → leb (g .remaining .0) 9 ≡ true
-    near e = le-leb (g .remaining .0) 9 (ltb-false 9 (g .remaining .0) e)
-
-    later : (b : Bool) → (b && false) ≡ false
-    later true = refl
-    later false = refl
-
-    go : (a b c d x y z : Bool) → isAlone (g .new) (g .remaining .0) ≡ a → ltb 9 (g .remaining .0) ≡ b → g .new ≡ c → isOpen ≡ d → ltb dataMost (saved + n) ≡ y
-        → P (if a then Unsegmented else
-        if b then Broken 4 else
-        if c && d then Restart else
-        if c then Start else
-        if not d then Broken 1 else
-        if not x then Broken 2 else
-        if y then Broken 5 else
-        if z then Final else Next)
-    go true b c d x y z p q r s t = alone p
-    go false true c d x y z p q r s t = broken 4 (omega arith) (simp (far q) (later (g .new)))
-    go false false true true x y z p q r s t = restart (simp (r, near q)) s
-    go false false true false x y z p q r s t = start (simp (r, near q)) s
-    go false false false false x y z p q r s t = broken 1 (omega arith) (simp r)
-    go false false false true false y z p q r s t = broken 2 (omega arith) (simp r)
-    go false false false true true true z p q r s t = broken 5 (omega arith) (simp r)
-    go false false false true true false true p q r s t = final (simp r) s (ltb-false dataMost (saved + n) t)
-    go false false false true true false false p q r s t = next (simp r) s (ltb-false dataMost (saved + n) t)
+    Lines.line-cases P isOpen before saved g n
+    (record {
+      unsegmented = λ new none. alone (simp (new, none));
+      beyond = λ far. broken 4 (omega arith) (simp (lt-leb (g .remaining .0) 9 far) (and-false (g .new)));
+      restart = λ new o some few. restart (simp (new, le-leb (g .remaining .0) 9 few)) o;
+      start = λ new o some few. start (simp (new, le-leb (g .remaining .0) 9 few)) o;
+      stray = λ new o few. broken 1 (omega arith) (simp new);
+      gap = λ new o few e. broken 2 (omega arith) (simp new);
+      over = λ new o few e long. broken 5 (omega arith) (simp new);
+      final = λ new o none e long. final (simp new) o long;
+      next = λ new o some few e long. next (simp new) o long;
+    })

@@ -41,7 +41,8 @@ use Rattle.demands.proofs.Holding.{none-held, owing-none}
 use Rattle.demands.proofs.ByLine.{begins}
 use Rattle.demands.proofs.Settling.{Arrived, leftIn, segment-done}
 use Rattle.demands.proofs.Sweeping.{losses, Swept, sweep-places, losses-few, losses-fit}
-use Rattle.demands.proofs.Accepting.{refused-number, alone-reference, key-fits, arrives, sharp-segment, sharp-clock, sharp-release, clock-good, release-good}
+use Rattle.demands.proofs.Accepting.{alone-reference, key-fits, arrives, clock-good, release-good}
+use Rattle.demands.proofs.Refused.{refused-number}
 
 -- the table's registry, T and clock are what the history tells
 pub record Linked (t : Table) (h : Told) : Type 0 where
@@ -173,7 +174,7 @@ module _ (n : Now) (inv : Inv (n .state) (n .told)) where
             (segment-done t store s f k (told .uncovered) (inv .exact) (told .ticks) (c .good) (inv .typed .count) (c .wide)
             (parameter-short (t .registry) s (c .reads)) (key-fits (t .registry) s (c .reads) association small) alone (c .room)))
         go false e =
-            refused-done (Arrives association s report) _ (refused-number (segmentChecks t store report association s) (sharp-segment t store report association s) e) refl refl
+            refused-done (Arrives association s report) _ (refused-number (n .state) (Arrives association s report) e) refl refl
 
   -- a sweep
   module _ (report : List ℕ) where
@@ -227,7 +228,7 @@ module _ (n : Now) (inv : Inv (n .state) (n .told)) where
             let l = inv .link (c .0) in
             sweep-done (isDue time (t .timer)) (λ p q. and-eq-true-iff (isOpen p) (leb (t .timer) (age time (p .start))) .0 q .0) 6 (c .0) (c .1) (Ticks time report) time refl refl
             (record { fields = l .fields; timer = l .timer; clock = refl })
-        go false e = refused-done (Ticks time report) _ (refused-number (clockChecks t report time) (sharp-clock t report time) e) refl refl
+        go false e = refused-done (Ticks time report) _ (refused-number (n .state) (Ticks time report) e) refl refl
 
     releases-done : (association : ℕ) → Done n (Releases association report) (step (n .state) (Releases association report))
     unfolding step release sweep after covers
@@ -240,7 +241,7 @@ module _ (n : Now) (inv : Inv (n .state) (n .told)) where
             let l = inv .link (c .0) in
             sweep-done (isOf association) (λ p q. and-eq-true-iff (isOpen p) (eqb (p .key .association) association) .0 q .0) 7 (c .0) (c .1) (Releases association report) (t .clock) refl refl
             (record { fields = l .fields; timer = l .timer; clock = l .clock })
-        go false e = refused-done (Releases association report) _ (refused-number (releaseChecks t report) (sharp-release t report) e) refl refl
+        go false e = refused-done (Releases association report) _ (refused-number (n .state) (Releases association report) e) refl refl
 
   pub call-done : (c : Call) → InRange c → Done n c (step (n .state) c)
   unfolding step after covers delivery

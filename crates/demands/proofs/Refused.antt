@@ -103,13 +103,17 @@ number st c = go (accepted (checksOf st c)) refl
     go true h = accepted-zero st c h ∙ sym (accepted-first (checksOf st c) h)
     go false h = rw (step-refused st c h)
 
+-- a refused call's number is not 0
+pub refused-number : (st : State) (c : Call) → accepted (checksOf st c) ≡ false → first (checksOf st c) ≡ 0 → ⊥
+refused-number st c h e = omega (arith, first-least 1 (checksOf st c) (checks-least st c) h)
+
 -- so 0 answers only a call that is carried out
 pub zero-accepted : (st : State) (c : Call) → step st c .answer .refusal ≡ 0 → accepted (checksOf st c) ≡ true
 zero-accepted st c e = go (accepted (checksOf st c)) refl
   where
     go : (b : Bool) → accepted (checksOf st c) ≡ b → b ≡ true
     go true h = refl
-    go false h = let z : ⊥ = omega (arith, first-least 1 (checksOf st c) (checks-least st c) h, number st c) in absurd z
+    go false h = absurd (refused-number st c h (sym (number st c) ∙ e))
 
 untouched : (st : State) (c : Call) → accepted (checksOf st c) ≡ false → Untouched ours st c
 unfolding delivery

@@ -25,19 +25,10 @@ use Rattle.demands.specs.Demand3.{View, held, owing, Now, call, calls, o
 use Rattle.demands.specs.Timer.{lostBy}
 use Rattle.demands.specs.Release.{Released, Release}
 use Rattle.demands.proofs.Sweeping.{losses}
-use Rattle.demands.proofs.Accepting.{refused-number, sharp-release, clock-good, release-good}
+use Rattle.demands.proofs.Accepting.{clock-good, release-good}
+use Rattle.demands.proofs.Refused.{zero-accepted}
 use Rattle.demands.proofs.Kept.{Inv, sweep-back, inv-opened, inv-call}
 use Rattle.demands.proofs.Timing.{anyOf, clash, swept-is, losses-timed, segment-timed}
-
-releases-accepted : (st : State) (association : ℕ) (report : List ℕ) → step st (Releases association report) .answer .refusal ≡ 0 → accepted (releaseChecks (st .table) report) ≡ true
-unfolding step release
-releases-accepted st association report = go (accepted (releaseChecks (st .table) report)) refl
-  where
-    go : (b : Bool) → accepted (releaseChecks (st .table) report) ≡ b
-        → (if b then sweep (isOf association) 7 (st .table .clock) (st .table) report else unswept (st .table) report (first (releaseChecks (st .table) report))) .answer .refusal ≡ 0
-        → b ≡ true
-    go true e z = refl
-    go false e z = absurd (refused-number (releaseChecks (st .table) report) (sharp-release (st .table) report) e z)
 
 -- something is held exactly where something is uncovered
 any-owing : (b : Bool) (l : List Segment) → (anyOf (λ (w : View). b) (owing l) ≡ true) ↔ ((b ≡ true) × (l ≡ [] → ⊥))
@@ -64,7 +55,7 @@ module _ (n : Now) (inv : Inv (n .state) (n .told)) where
       let fits : (i : ℕ) (p : Place) → sameKey (p .key) k ≡ true → isOf association p ≡ (isOpen p && eqb (k .association) association) =
       λ i p e. ap (λ (key : Key). isOpen p && eqb (key .association) association) (same-key (p .key) k .0 e) in
       let e : lostBy 7 k (recordsIn (step (n .state) (Releases association report) .answer)) ≡ anyOf (λ (w : View). eqb (k .association) association) (owing (n .told .uncovered k)) =
-      ap (lostBy 7 k) (releases-records association report (releases-accepted (n .state) association report z))
+      ap (lostBy 7 k) (releases-records association report (zero-accepted (n .state) (Releases association report) z))
       ∙ swept-is 7 refl (isOf association) (λ (w : View). eqb (k .association) association) (n .state .store) k fits 0 (t .places)
       ∙ ap (anyOf (λ (w : View). eqb (k .association) association)) (inv .exact k) in
       let q = any-owing (eqb (k .association) association) (n .told .uncovered k) in

@@ -37,9 +37,10 @@ use Rattle.demands.specs.Machine.{ours, All, InRange, Typed}
 use Rattle.demands.specs.History.{Segment, Told, filed, settled, with, recordsIn, keyIn, segmentIn, arrived, restarts, nextOf, after}
 use Rattle.demands.specs.Demand3.{View, viewOf, heldFrom, held, owing, Now, call, calls, opened}
 use Rattle.demands.specs.Timer.{lostBy, isOld, ticksAfter, Timed, Timer}
-use Rattle.demands.proofs.ByLine.{line-cases}
+use Rattle.demands.proofs.ByLine.{and-false, line-cases}
 use Rattle.demands.proofs.Sweeping.{losses}
-use Rattle.demands.proofs.Accepting.{refused-number, arrives, key-fits, sharp-clock, clock-good, release-good}
+use Rattle.demands.proofs.Accepting.{arrives, key-fits, clock-good, release-good}
+use Rattle.demands.proofs.Refused.{zero-accepted}
 use Rattle.demands.proofs.Kept.{Inv, sweep-back, inv-opened, inv-call}
 
 -- the first segment's age on the clock is its true age
@@ -136,16 +137,6 @@ swept-is cause own test seen store k fits i (p ∷ ps) =
     go false true true true q e f ih = clash (f refl)
     go true false true d q e f ih = clash (sym (f refl))
 
-pub ticks-accepted : (st : State) (time : ℕ) (report : List ℕ) → step st (Ticks time report) .answer .refusal ≡ 0 → accepted (clockChecks (st .table) report time) ≡ true
-unfolding step clock
-ticks-accepted st time report = go (accepted (clockChecks (st .table) report time)) refl
-  where
-    go : (b : Bool) → accepted (clockChecks (st .table) report time) ≡ b
-        → (if b then sweep (isDue time (st .table .timer)) 6 time (st .table) report else unswept (st .table) report (first (clockChecks (st .table) report time))) .answer .refusal ≡ 0
-        → b ≡ true
-    go true e z = refl
-    go false e z = absurd (refused-number (clockChecks (st .table) report time) (sharp-clock (st .table) report time) e z)
-
 timer-most : (t : Table) → sound t ≡ true → t .timer ≤ 1000000
 unfolding sound
 timer-most t s = leb-true (t .timer) 1000000 ((simp and-eq-true-iff at s) .0 .0 .0 .1)
@@ -177,7 +168,7 @@ module _ (n : Now) (inv : Inv (n .state) (n .told)) (timely : Timely (n .told)) 
           (y .0, (let z = y .1 in omega arith), age-more time (h .time) (x .time) (h .ticks) (x .ticks) b (timely .time) (y .0) (y .1) (y .2) now far)
 
   ticks-good : (time : ℕ) (report : List ℕ) → step (n .state) (Ticks time report) .answer .refusal ≡ 0 → (sound t ≡ true) × (reportLeast ≤ length report) × (age time (t .clock) < 2 ^ 31)
-  ticks-good time report z = clock-good t report time (ticks-accepted (n .state) time report z)
+  ticks-good time report z = clock-good t report time (zero-accepted (n .state) (Ticks time report) z)
 
   pub ticks-records : (time : ℕ) (report : List ℕ) → accepted (clockChecks t report time) ≡ true → recordsIn (step (n .state) (Ticks time report) .answer) ≡ losses (isDue time (t .timer)) 6 (t .places)
   unfolding step clock sweep
@@ -226,15 +217,11 @@ module _ (n : Now) (inv : Inv (n .state) (n .told)) (timely : Timely (n .told)) 
   clock-timed time report b z k =
       let c = ticks-good time report z in
       let e : lostBy 6 k (recordsIn (step (n .state) (Ticks time report) .answer)) ≡ anyOf (olds (h .timer) time) (owing (h .uncovered k)) =
-      ap (lostBy 6 k) (ticks-records time report (ticks-accepted (n .state) time report z)) ∙ swept-is 6 refl (isDue time (t .timer)) (olds (t .timer) time) (n .state .store) k (λ i p e. refl) 0 (t .places)
+      ap (lostBy 6 k) (ticks-records time report (zero-accepted (n .state) (Ticks time report) z)) ∙ swept-is 6 refl (isDue time (t .timer)) (olds (t .timer) time) (n .state .store) k (λ i p e. refl) 0 (t .places)
       ∙ ap₂ (λ (m : ℕ) (l : List View). anyOf (olds m time) l) (inv .link (c .0) .timer) (inv .exact k) in
       rw e (old-is time (h .uncovered k) (older time b (c .0) (c .2) k))
 
 -- No other call gives cause 6
-
-and-false : (b : Bool) → (b && false) ≡ false
-and-false true = refl
-and-false false = refl
 
 pub losses-timed : (test : Place → Bool) (cause other : ℕ) → eqb cause other ≡ false → (k : Key) (ps : List Place) → lostBy other k (losses test cause ps) ≡ false
 losses-timed test cause other e k [] = refl
