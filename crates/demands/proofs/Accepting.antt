@@ -6,22 +6,20 @@ use mathlib.Core.List.{List, [], _∷_, _++_}
 use native.Mathlib.Omega.{arith}
 use borrow.Author.Tests.{ltb-false, leb-false, not-true}
 use lib.Dec.{leb, ltb}
-use lib.ListN.{length, take, drop, length-append, length-take, length-replicate}
+use lib.ListN.{length, take, drop, length-take}
 use Rattle.rules.specs.General.{if_then_else_}
-use Rattle.rules.specs.Numbers.{parameterMost, addressMost, storeLeast, age}
+use Rattle.rules.specs.Numbers.{parameterMost, addressMost, age}
 use Rattle.rules.specs.Refusals.{Check, _when_, accepted}
 use Rattle.rules.specs.Registry.{kindOf}
 use Rattle.rules.specs.Layout.{octet, contextOf, has1a, has3a, isAlone, isNew, remainingOf, at2, at3, originAt, fieldsOf, lastChecks, contextChecks, sequenceChecks, addressesChecks, readingChecks}
-use Rattle.rules.specs.Records.{recordLength, zeroFilled}
-use Rattle.rules.specs.Places.{lowestFree, isAt}
 use Rattle.rules.specs.Soundness.{sound}
-use Rattle.rules.specs.Receiving.{keyOf, informationOf, isStart, lineAt, segmentChecks}
+use Rattle.rules.specs.Receiving.{keyOf}
 use Rattle.rules.specs.Sweep.{reportLeast, clockChecks, releaseChecks}
 use Rattle.rules.specs.declared.Entry.{Entry}
 use Rattle.rules.specs.declared.Table.{Table}
-use Rattle.rules.specs.declared.Fields.{Fields}
 use Rattle.rules.proofs.Refusals.{accepted-both}
 use Rattle.rules.proofs.Reading.{address-short}
+use Rattle.demands.proofs.Arriving.{filled-length}
 use Rattle.demands.proofs.Settling.{KeyFits}
 
 abbrev seven : List ℕ → ℕ → Check
@@ -59,14 +57,11 @@ module _ (registry : List Entry) (s : List ℕ) where
     unfolding fieldsOf
     key-fits association h =
         record {
-          address = filled (take (fieldsOf registry s .length) (drop (fieldsOf registry s .origin) s)) (short (fieldsOf registry s .length) _ (address-short registry s e));
+          address = filled-length (take (fieldsOf registry s .length) (drop (fieldsOf registry s .origin) s)) (short (fieldsOf registry s .length) _ (address-short registry s e));
           association = h;
           context = range (has1a s);
         }
       where
-        filled : (l : List ℕ) → length l ≤ addressMost → length (zeroFilled l) ≡ addressMost
-        filled l g = simp (length-append, length-replicate) (omega arith)
-
         short : (n : ℕ) (l : List ℕ) → n ≤ addressMost → length (take n l) ≤ addressMost
         short n l g = simp length-take (omega arith)
 
@@ -74,35 +69,14 @@ module _ (registry : List Entry) (s : List ℕ) where
         range true = omega arith
         range false = omega arith
 
-pub record Accepts (t : Table) (store report : List ℕ) (association : ℕ) (s : List ℕ) : Type 0 where
-  pub good : sound t ≡ true
-  pub wide : storeLeast ≤ length store
-  pub long : recordLength ≤ length report
-  pub reads : accepted (readingChecks (t .registry) s) ≡ true
-  pub room :
-      (isStart (lineAt t (keyOf association s (fieldsOf (t .registry) s)) (fieldsOf (t .registry) s .heading) (length (informationOf s (fieldsOf (t .registry) s))))
-      && not (isAt (lowestFree (t .places)))) ≡ false
+-- where a start has room, 10 does not apply
+pub room-left : (a b : Bool) → (a ≡ true → b ≡ true) → (a && not b) ≡ false
+room-left true b h = rw (h refl)
+room-left false b h = refl
 
 not-not : (b : Bool) → not (not b) ≡ true → b ≡ true
 not-not true e = refl
 not-not false e = e
-
-pub arrives : (t : Table) (store report : List ℕ) (association : ℕ) (s : List ℕ) → accepted (segmentChecks t store report association s) ≡ true → Accepts t store report association s
-unfolding segmentChecks
-arrives t store report association s e =
-    let f : Fields = fieldsOf (t .registry) s in
-    let three : List Check = (1 when not (sound t) ∷ 2 when ltb (length store) storeLeast ∷ 3 when ltb (length report) recordLength ∷ []) in
-    let ten : List Check = (10 when (isStart (lineAt t (keyOf association s f) (f .heading) (length (informationOf s f))) && not (isAt (lowestFree (t .places)))) ∷ []) in
-    let a = accepted-both (three ++ readingChecks (t .registry) s) ten e in
-    let b = accepted-both three (readingChecks (t .registry) s) (a .0) in
-    let c = simp and-eq-true-iff at (b .0) in
-    record {
-      good = not-not (sound t) (c .0);
-      wide = ltb-false (length store) storeLeast (not-true _ (c .1 .0));
-      long = ltb-false (length report) recordLength (not-true _ (c .1 .1 .0));
-      reads = b .1;
-      room = not-true _ (and-eq-true-iff _ _ .0 (a .1) .0);
-    }
 
 pub clock-good : (t : Table) (report : List ℕ) (time : ℕ) → accepted (clockChecks t report time) ≡ true
     → (sound t ≡ true) × (reportLeast ≤ length report) × (age time (t .clock) < 2 ^ 31)

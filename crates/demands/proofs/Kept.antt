@@ -8,10 +8,10 @@ use borrow.Author.Tests.{ne-eqb, leb-true}
 use lib.Dec.{eqb, leb}
 use lib.ListN.{length, replicate, getD}
 use Rattle.octets.specs.Splice.{splice}
-use Rattle.rules.specs.General.{if_then_else_, every}
+use Rattle.rules.specs.General.{if_then_else_}
 use Rattle.rules.specs.Numbers.{age, entriesMost}
 use Rattle.rules.specs.Refusals.{accepted, first}
-use Rattle.rules.specs.Registry.{kindOf, entriesOf, isUsable}
+use Rattle.rules.specs.Registry.{kindOf, entriesOf}
 use Rattle.rules.specs.Layout.{isAlone, contextOf, fieldsOf}
 use Rattle.rules.specs.Records.{recordsOctets, recordsFrom}
 use Rattle.rules.specs.Places.{sameKey, isOpen, noPlace, holds}
@@ -34,6 +34,7 @@ use Rattle.rules.proofs.Keys.{same-equal}
 use Rattle.rules.proofs.Records.{records-back}
 use Rattle.rules.proofs.Held.{every-at, open-is, places-sound}
 use Rattle.rules.proofs.Reading.{parameter-short}
+use Rattle.rules.proofs.Arrived.{arrived as arrived-good}
 use Rattle.demands.specs.Machine.{ours, All, InRange, Typed}
 use Rattle.demands.specs.History.{Segment, Told, coversOf, recordsIn, isNone, with, settled, keyIn, segmentIn, restarts, nextOf, after, covers, beginning}
 use Rattle.demands.specs.Demand3.{Fair, owed, parameterOf, heldFrom, held, owing, Now, call, calls, opened, Demand3}
@@ -41,8 +42,9 @@ use Rattle.demands.proofs.Holding.{none-held, owing-none}
 use Rattle.demands.proofs.ByLine.{begins}
 use Rattle.demands.proofs.Settling.{Arrived, leftIn, segment-done}
 use Rattle.demands.proofs.Sweeping.{losses, Swept, sweep-places, losses-few, losses-fit}
-use Rattle.demands.proofs.Accepting.{alone-reference, key-fits, arrives, clock-good, release-good}
+use Rattle.demands.proofs.Accepting.{alone-reference, key-fits, room-left, clock-good, release-good}
 use Rattle.demands.proofs.Refused.{refused-number}
+use Rattle.demands.proofs.Sparing.{registry-usable}
 
 -- the table's registry, T and clock are what the history tells
 pub record Linked (t : Table) (h : Told) : Type 0 where
@@ -81,10 +83,6 @@ not-held t k s r j l = go (holds k (getD (t .places) j noPlace)) refl
         let same = ap (λ (m : Key). m .reference .0) (same-equal (p .key) k (both .1)) in
         let z : ⊥ = omega arith in absurd z
     go false e = refl
-
-usable : (t : Table) → sound t ≡ true → every isUsable (t .registry) ≡ true
-unfolding sound
-usable t s = (simp and-eq-true-iff at s) .0 .0 .1 .0
 
 either-left : (b : Bool) (h : Told) (p q : Key → List Segment) (k : Key) → (if b then with h p else with h q) .uncovered k ≡ (if b then p else q) k
 either-left true h p q k = refl
@@ -163,16 +161,16 @@ module _ (n : Now) (inv : Inv (n .state) (n .told)) where
             → Done n (Arrives association s report) (arrivalOf (if b then receivedAt t store report association s
             else record { answer = record { table = t; decision = Refused; refusal = first (segmentChecks t store report association s); records = 0 }; store = store; report = report }))
         go true e =
-            let c = arrives t store report association s e in
-            let l = inv .link (c .good) in
+            let c = arrived-good t store report association s e in
+            let l = inv .link (c .table) in
             let f : Fields = fieldsOf (t .registry) s in
             let k : Key = keyOf association s f in
             let alone : (isAlone (f .heading .new) (f .heading .remaining .0) ≡ true → told .uncovered k ≡ []) =
-            (λ a. owing-none (told .uncovered k) (sym (inv .exact k) ∙ none-held store k 0 (t .places) (not-held t k (c .good) (alone-reference (t .registry) s (c .reads) a)))) in
-            arrive-done _ l (c .long)
+            (λ a. owing-none (told .uncovered k) (sym (inv .exact k) ∙ none-held store k 0 (t .places) (not-held t k (c .table) (alone-reference (t .registry) s (c .reading) a)))) in
+            arrive-done _ l (c .reports)
             (moved f (fieldsOf (told .registry) s) (t .clock) (told .time) _ (l .fields s) (l .clock)
-            (segment-done t store s f k (told .uncovered) (inv .exact) (told .ticks) (c .good) (inv .typed .count) (c .wide)
-            (parameter-short (t .registry) s (c .reads)) (key-fits (t .registry) s (c .reads) association small) alone (c .room)))
+            (segment-done t store s f k (told .uncovered) (inv .exact) (told .ticks) (c .table) (inv .typed .count) (c .stores)
+            (parameter-short (t .registry) s (c .reading)) (key-fits (t .registry) s (c .reading) association small) alone (room-left _ _ (c .room))))
         go false e =
             refused-done (Arrives association s report) _ (refused-number (n .state) (Arrives association s report) e) refl refl
 
@@ -194,7 +192,7 @@ module _ (n : Now) (inv : Inv (n .state) (n .told)) where
           let few = losses-few test cause (t .places) in
           let c = inv .typed .count in
           records-back made report
-          (losses-fit (t .registry) (t .timer) (t .clock) (usable t good) test opens cause (t .places) (inv .typed .each) (places-sound t good))
+          (losses-fit (t .registry) (t .timer) (t .clock) (registry-usable t good) test opens cause (t .places) (inv .typed .each) (places-sound t good))
           (omega arith)
 
       swept : Swept store test cause 0 (t .places) (told .uncovered) (λ k. [])

@@ -14,7 +14,7 @@ use Rattle.rules.specs.Numbers.{age, storeLeast, placeCount}
 use Rattle.rules.specs.Refusals.{accepted}
 use Rattle.rules.specs.Layout.{fieldsOf, readingChecks, parameterOctets}
 use Rattle.rules.specs.Records.{recordOctets, recordFrom, recordLength}
-use Rattle.rules.specs.Places.{sameKey, freePlace, placeOf}
+use Rattle.rules.specs.Places.{sameKey, placeOf}
 use Rattle.rules.specs.Soundness.{openSound, freeSound, sound}
 use Rattle.rules.specs.Receiving.{lineOf, effectOf, segmentChecks, segment}
 use Rattle.rules.specs.Sweep.{sweep, isDue, clockChecks, clock, releaseChecks, release, reportLeast}
@@ -24,7 +24,7 @@ use Rattle.rules.specs.Sending.{segmentOctets, sendingChecks, sending}
 use Rattle.rules.specs.Examples.{fresh}
 use Rattle.rules.specs.Calls.{State, Call, Opens, Arrives, Ticks, Releases, Sends, step}
 use Rattle.rules.specs.declared.Key.{Key}
-use Rattle.demands.specs.Machine.{Machine, checksOf, All, InRange, TypedPlace, Typed}
+use Rattle.demands.specs.Machine.{Machine, checksOf, All, InRange, Typed}
 use Rattle.demands.specs.Demand1.{Demand1}
 use Rattle.demands.specs.Demand2.{Demand2, Sending, Sendable, RoundTrip, stop, mine}
 use Rattle.demands.specs.History.{after, covers}
@@ -32,6 +32,7 @@ use Rattle.demands.specs.Demand3.{Demand3, Accounted, View, calls, opene
 use Rattle.demands.specs.Timer.{Timer}
 use Rattle.demands.specs.Release.{Release}
 use Rattle.demands.specs.Wrong.{joining, unchanged, sweeping}
+use Rattle.demands.proofs.Typed.{all-free}
 use Rattle.demands.specs.Wrong.{refuses, losesAll, forgets, savesFirst, invents, neverRefuses, swallows, handsOutEarly, losesNothing, releasesNothing}
 use Rattle.demands.specs.Wrong.{comparesNumbers, comparesFilled, dropsRestart, countsSaved, tellsLast, startsAnew, subtractsPlainly}
 
@@ -177,13 +178,9 @@ three-sendable (suc (suc (suc k))) lt area long = let z : ⊥ = omega arith in a
 one-long : recordLength ≤ length one
 one-long = omega (arith, length-replicate {A = ℕ} recordLength 0)
 
-typed-free : (n : ℕ) → All TypedPlace (replicate n freePlace)
-typed-free zero = tt
-typed-free (suc n) = (record { address = refl; association = omega arith }, typed-free n)
-
 typed : Typed fresh
 unfolding opening
-typed = record { count = refl; each = typed-free placeCount }
+typed = record { count = refl; each = all-free placeCount }
 
 trip : (m : Machine) → Demand2 m → (whole : List ℕ) → Sendable (sent whole) → RoundTrip m (sent whole) before areas one
 unfolding sound freeSound openSound opening

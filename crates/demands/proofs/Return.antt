@@ -36,7 +36,8 @@ use Rattle.rules.specs.declared.Part.the-variants.{OfStore}
 use Rattle.rules.specs.declared.Decision.the-variants.{Delivered}
 use Rattle.rules.proofs.Places.{IsFirst, place-is, free-is}
 use Rattle.rules.proofs.Keys.{same-self}
-use Rattle.rules.proofs.Cutting.{sendable, empty, stretches, stretches-step, cut-joins, alone-is, within-room}
+use Rattle.octets.proofs.Number.{empty}
+use Rattle.rules.proofs.Cutting.{sendable, stretches, stretches-step, cut-joins, alone-is, within-room}
 use Rattle.rules.proofs.ReadBack.{ReadsBack, read-back}
 use Rattle.demands.specs.Machine.{ours, InRange, isOpening, Typed}
 use Rattle.demands.specs.Demand2.{Sending, numbered, kindIn, header, countIn, segmentedIn, Sendable, sentBy, IsSent, keyIn, recordIn, Spares, isSaved, Meanwhile, stop, mine, other, Keeps, Returns, Begins, RoundTrip, Demand2}

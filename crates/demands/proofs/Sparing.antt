@@ -27,7 +27,7 @@ use Rattle.demands.specs.Machine.{All, InRange, TypedPlace, Typed}
 use Rattle.demands.specs.Demand2.{Spares}
 use Rattle.demands.proofs.Spared.{Kept, segment-kept, segment-refused, segment-registry, segment-length, sweep-kept}
 
-registry-usable : (t : Table) → sound t ≡ true → every isUsable (t .registry) ≡ true
+pub registry-usable : (t : Table) → sound t ≡ true → every isUsable (t .registry) ≡ true
 unfolding sound
 registry-usable t e = (simp and-eq-true-iff at e) .0 .0 .1 .0
 

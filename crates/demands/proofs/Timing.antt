@@ -33,13 +33,14 @@ use Rattle.rules.specs.declared.Decision.the-variants.{Refused}
 use Rattle.rules.proofs.Records.{record-length}
 use Rattle.rules.proofs.Numbers.{age-leads, age-is}
 use Rattle.rules.proofs.Held.{open-is, places-sound}
+use Rattle.rules.proofs.Arrived.{arrived as arrived-good}
 use Rattle.demands.specs.Machine.{ours, All, InRange, Typed}
 use Rattle.demands.specs.History.{Segment, Told, filed, settled, with, recordsIn, keyIn, segmentIn, arrived, restarts, nextOf, after}
 use Rattle.demands.specs.Demand3.{View, viewOf, heldFrom, held, owing, Now, call, calls, opened}
 use Rattle.demands.specs.Timer.{lostBy, isOld, ticksAfter, Timed, Timer}
 use Rattle.demands.proofs.ByLine.{and-false, line-cases}
 use Rattle.demands.proofs.Sweeping.{losses}
-use Rattle.demands.proofs.Accepting.{arrives, key-fits, clock-good, release-good}
+use Rattle.demands.proofs.Accepting.{key-fits, clock-good, release-good}
 use Rattle.demands.proofs.Refused.{zero-accepted}
 use Rattle.demands.proofs.Kept.{Inv, sweep-back, inv-opened, inv-call}
 
@@ -274,7 +275,7 @@ segment-timed cause b st association s report k = go (accepted (segmentChecks (s
         } in
         lostBy cause k (recordsFrom (o .answer .records) (o .report)) ≡ false)
     go true e =
-        let c = arrives (st .table) (st .store) report association s e in
+        let c = arrived-good (st .table) (st .store) report association s e in
         let t : Table = st .table in
         let f : Fields = fieldsOf (t .registry) s in
         let key : Key = keyOf association s f in
@@ -283,8 +284,8 @@ segment-timed cause b st association s report k = go (accepted (segmentChecks (s
         let p : Place = placeAt (t .places) place in
         let room : Found = lowestFree (t .places) in
         calm-timed cause b k (effectOf (lineAt t key (f .heading) (length octets)) t (st .store) key f octets place p room .records) report
-        (calm-effect t (st .store) key f octets place p room (isAt place) (p .remaining .0) (p .octets) (length octets) (key-fits (t .registry) s (c .reads) 0 (omega arith) .address))
-        (c .long)
+        (calm-effect t (st .store) key f octets place p room (isAt place) (p .remaining .0) (p .octets) (length octets) (key-fits (t .registry) s (c .reading) 0 (omega arith) .address))
+        (c .reports)
     go false e = refl
 
 release-timed : (n : Now) → Inv (n .state) (n .told) → (association : ℕ) (report : List ℕ) (k : Key) → lostBy 6 k (recordsIn (step (n .state) (Releases association report) .answer)) ≡ false

@@ -45,12 +45,12 @@ put-typed : (ps : List Place) (f : Found) (p : Place) → TypedPlace p → Typed
 put-typed ps (At i) p h all = (length-set ps i p ∙ all .0, all-set ps i p h (all .1))
 put-typed ps Nothing p h all = all
 
-all-replicate : (n : ℕ) → All TypedPlace (replicate n freePlace)
-all-replicate zero = tt
-all-replicate (suc n) = (free-typed, all-replicate n)
+pub all-free : (n : ℕ) → All TypedPlace (replicate n freePlace)
+all-free zero = tt
+all-free (suc n) = (free-typed, all-free n)
 
 empty-typed : (entries : List Entry) (timer clock : ℕ) → Typed (emptyTable entries timer clock)
-empty-typed entries timer clock = record { count = refl; each = all-replicate placeCount }
+empty-typed entries timer clock = record { count = refl; each = all-free placeCount }
 
 -- a place with the key of a segment whose address is within 20
 key-typed : (association : ℕ) (s : List ℕ) (f : Fields) → association < 2 ^ 16 → f .length ≤ addressMost → (p : Place) → p .key ≡ keyOf association s f → TypedPlace p

@@ -25,13 +25,13 @@ number-back (suc width) x h =
     let i : number (bigEndian width (x / 256)) ≡ x / 256 = number-back width (x / 256) (omega arith) in
     number-last 0 (bigEndian width (x / 256)) (x % 256) ∙ rw i (omega arith)
 
+pub empty : (xs : List ℕ) → length xs ≡ 0 → xs ≡ []
+empty [] e = refl
+empty (x ∷ xs) e = let z : ⊥ = omega arith in absurd z
+
 -- octets are those of their number
 pub octets-back : (xs : List ℕ) (width : ℕ) → length xs ≡ width → ((i : ℕ) → i < width → getD xs i 0 < 256) → bigEndian width (number xs) ≡ xs
 octets-back xs zero e f = sym (empty xs e)
-  where
-    empty : (xs : List ℕ) → length xs ≡ 0 → xs ≡ []
-    empty [] e = refl
-    empty (x ∷ xs) e = let z : ⊥ = omega arith in absurd z
 octets-back xs (suc width) e f =
     let x = getD xs width 0 in
     let b : x < 256 = f width (omega arith) in

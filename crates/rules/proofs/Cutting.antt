@@ -10,6 +10,7 @@ use borrow.Author.Tests.{ltb-false, leb-true, leb-false, eqb-true, eqb-false, no
 use lib.Dec.{eqb, ltb}
 use lib.ListN.{length, take, length-append, length-take}
 use lib.Seq.{take-all, take-add}
+use Rattle.octets.proofs.Number.{empty}
 use Rattle.rules.specs.General.{if_then_else_, every}
 use Rattle.rules.specs.Refusals.{accepted}
 use Rattle.rules.specs.Registry.{kindOf, isUsable}
@@ -185,10 +186,6 @@ parameter-length g o d information = simp length-append
 sequence-length : (g : Heading) (b : Bool) → isAlone (g .new) (g .remaining .0) ≡ b → length (sequenceOctets g) ≡ (if b then 1 else 2)
 sequence-length g true e = simp e
 sequence-length g false e = simp e
-
-pub empty : (a : List ℕ) → length a ≡ 0 → a ≡ []
-empty [] e = refl
-empty (x ∷ a) e = let z : ⊥ = omega arith in absurd z
 
 pub record WithinRoom (q : Request) (m : ℕ) (s : List ℕ) : Type 0 where
   pub first : q .number ≡ 0 → length s ≤ q .room1

@@ -20,7 +20,8 @@ use Rattle.rules.specs.declared.Table.{Table}
 use Rattle.rules.specs.declared.Heading.{Heading}
 use Rattle.rules.specs.declared.Request.{Request}
 use Rattle.rules.proofs.Refusals.{accepted-append}
-use Rattle.rules.proofs.Cutting.{kindFor, headerFor, sendable, empty, alone-is, within-room}
+use Rattle.octets.proofs.Number.{empty}
+use Rattle.rules.proofs.Cutting.{kindFor, headerFor, sendable, alone-is, within-room}
 
 -- the octet at a position, by what is left there
 module _ (s : List ℕ) (at x : ℕ) (rest : List ℕ) (e : drop at s ≡ x ∷ rest) where

@@ -114,17 +114,20 @@ pub struct Received {
     pub records: u8,
 }
 
+#[repr(C)]
 pub struct Swept {
     pub table: Table,
     pub refusal: u8,
     pub records: u8,
 }
 
+#[repr(C)]
 pub struct Opened {
     pub table: Table,
     pub refusal: u8,
 }
 
+#[repr(C)]
 pub struct Sent {
     pub refusal: u8,
     pub count: u8,
@@ -132,6 +135,7 @@ pub struct Sent {
 }
 
 // What sending is asked for, beside addresses and data.
+#[repr(C)]
 pub struct Request {
     pub context: Context,
     pub instruction: u8,
