@@ -1,0 +1,29 @@
+use Rattle.host.proofs.Crossing.{crosses}
+use borrow.Author.Needs.{needs}
+use Rattle.host.proofs.egrynnol_segment.Statement.{statement}
+use Rattle.host.proofs.egrynnol_segment.Tie as tie
+use Rattle.host.proofs.egrynnol_segment.Reads as reads
+use Rattle.host.proofs.egrynnol_segment.Lts as lts
+use Rattle.host.proofs.outcome_of.Reads as outcome-of-reads
+use Rattle.receiver.proofs.segment.Reads as segment-reads
+
+segment-requires : tie.Need-segment-requires
+segment-requires c κs = search needs
+
+outcome-of-requires : tie.Need-outcome-of-requires
+outcome-of-requires c κs = search needs
+
+same-length : tie.Need-same-length
+same-length c = search needs
+
+same-length-2 : tie.Need-same-length-2
+same-length-2 c = search needs
+
+returns : tie.Need-returns
+returns c =
+    let r = c .before .before .before .before .before .before .segment .ensures in
+    record { answered = crosses _ _ _ (r .answered) (c .outcome-of .ensures); stored = r .stored; reported = r .reported }
+
+pub egrynnol-segment-spec : {M : Type 1} → statement M
+egrynnol-segment-spec =
+    tie.close (tie.spec segment-requires outcome-of-requires same-length same-length-2 returns)

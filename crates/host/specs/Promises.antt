@@ -1,0 +1,26 @@
+-- What the calls of C promise where an answer crosses as numbers. The other calls promise what the call beneath promises.
+use Prim.Native.Nat.{ℕ}
+use mathlib.Core.Path.{_≡_}
+use mathlib.Core.List.{List}
+use Rattle.rules.specs.Receiving.{segment}
+use Rattle.rules.specs.Delivery.{delivery}
+use Rattle.rules.specs.declared.Table.{Table}
+use Rattle.rules.specs.declared.Received.{Received}
+use Rattle.host.specs.Crossing.{outcomeOf, decisionOf, stretchOf, taken}
+use Rattle.host.specs.declared.Outcome.{Outcome}
+use Rattle.host.specs.declared.Arrival.{Arrival}
+use Rattle.host.specs.declared.Stretch.{Stretch}
+
+-- an answer as it crosses
+abbrev pub crossing : Received → Arrival
+crossing r = record { table = r .table; outcome = outcomeOf (r .decision); refusal = r .refusal; records = r .records }
+
+pub record HostSegment (t : Table) (store report : List ℕ) (association : ℕ) (s : List ℕ) (answer : Arrival) (store′ report′ : List ℕ) : Type 0 where
+  pub answered : answer ≡ crossing (segment t store report association s .answer)
+  pub stored : store′ ≡ segment t store report association s .store
+  pub reported : report′ ≡ segment t store report association s .report
+
+-- the part that the host takes is the delivery
+pub record HostDelivery (o : Outcome) (s store : List ℕ) (answer : Stretch) : Type 0 where
+  pub answered : answer ≡ stretchOf o s store
+  pub delivered : taken answer s store ≡ delivery (decisionOf o) s store
