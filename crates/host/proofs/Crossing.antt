@@ -1,5 +1,5 @@
 -- The part that crosses as numbers is the delivery.
-use Prim.Native.Nat.{ℕ, zero, suc, _+_, _≤_, _<_}
+use Prim.Native.Nat.{ℕ, _+_, _≤_, _<_}
 use mathlib.Core.Path.{_≡_, refl, ap}
 use mathlib.Core.Bool.{Bool, true, false, _&&_}
 use mathlib.Core.List.{List, [], _∷_}
@@ -12,7 +12,6 @@ use borrow.Author.Tests.{leb-true, ltb-true, ne-eqb}
 use Rattle.rules.specs.General.{if_then_else_}
 use Rattle.rules.specs.Numbers.{placeCount, stretchLength, placeStart}
 use Rattle.rules.specs.Delivery.{partOf, partOfPlace, delivery}
-use Rattle.rules.specs.declared.Found.{Found}
 use Rattle.rules.specs.declared.Part.{Part}
 use Rattle.rules.specs.declared.Part.the-variants.{OfParameter, OfStore}
 use Rattle.rules.specs.declared.Decision.{Decision}

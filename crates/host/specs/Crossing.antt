@@ -1,6 +1,6 @@
 -- What does not cross as it is: a decision and a returned part, as numbers.
 use Prim.Native.Nat.{ℕ, _≤_, _<_}
-use mathlib.Core.List.{List, []}
+use mathlib.Core.List.{List}
 use lib.Dec.{eqb}
 use lib.ListN.{length, take, drop}
 use Rattle.rules.specs.General.{if_then_else_}

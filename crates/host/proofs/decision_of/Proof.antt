@@ -2,9 +2,6 @@ use borrow.Author.Tests.{ne-eqb}
 use borrow.Author.Needs.{needs}
 use Rattle.host.proofs.decision_of.Statement.{statement}
 use Rattle.host.proofs.decision_of.Tie as tie
-use Rattle.host.proofs.decision_of.Reads as reads
-use Rattle.host.proofs.decision_of.Lts as lts
-use Rattle.host.proofs.found_of.Reads as found-of-reads
 
 returns : tie.Need-returns
 returns c = simp (c .if1 .taken)

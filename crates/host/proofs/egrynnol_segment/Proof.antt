@@ -2,10 +2,6 @@ use Rattle.host.proofs.Crossing.{crosses}
 use borrow.Author.Needs.{needs}
 use Rattle.host.proofs.egrynnol_segment.Statement.{statement}
 use Rattle.host.proofs.egrynnol_segment.Tie as tie
-use Rattle.host.proofs.egrynnol_segment.Reads as reads
-use Rattle.host.proofs.egrynnol_segment.Lts as lts
-use Rattle.host.proofs.outcome_of.Reads as outcome-of-reads
-use Rattle.receiver.proofs.segment.Reads as segment-reads
 
 segment-requires : tie.Need-segment-requires
 segment-requires c κs = search needs

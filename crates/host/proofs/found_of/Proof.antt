@@ -1,8 +1,6 @@
 use borrow.Author.Tests.{ne-eqb}
 use Rattle.host.proofs.found_of.Statement.{statement}
 use Rattle.host.proofs.found_of.Tie as tie
-use Rattle.host.proofs.found_of.Reads as reads
-use Rattle.host.proofs.found_of.Lts as lts
 
 returns : tie.Need-returns
 returns c = simp (c .if1 .taken)

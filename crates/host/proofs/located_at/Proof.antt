@@ -1,13 +1,10 @@
-use mathlib.Core.Path.{refl, sym, _∙_}
+use mathlib.Core.Path.{sym, _∙_}
 use borrow.Author.Tests.{ne-eqb}
 use native.Mathlib.Omega.{arith}
 use Rattle.host.proofs.Crossing.{none-nowhere, placed}
 use borrow.Author.Needs.{needs}
 use Rattle.host.proofs.located_at.Statement.{statement}
 use Rattle.host.proofs.located_at.Tie as tie
-use Rattle.host.proofs.located_at.Reads as reads
-use Rattle.host.proofs.located_at.Lts as lts
-use Rattle.host.proofs.nowhere.Reads as nowhere-reads
 
 nowhere-requires : tie.Need-nowhere-requires
 nowhere-requires c κs = search needs

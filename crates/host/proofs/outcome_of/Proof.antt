@@ -2,10 +2,6 @@ use mathlib.Core.Path.{_∙_}
 use borrow.Author.Needs.{needs}
 use Rattle.host.proofs.outcome_of.Statement.{statement}
 use Rattle.host.proofs.outcome_of.Tie as tie
-use Rattle.host.proofs.outcome_of.Reads as reads
-use Rattle.host.proofs.outcome_of.Lts as lts
-use Rattle.host.proofs.numbers.Reads as numbers-reads
-use Rattle.host.proofs.place_number.Reads as place-number-reads
 
 enum-told : tie.Need-enum-told
 enum-told c = search needs

@@ -1,0 +1,316 @@
+-- The loopback by the rules: what is refused is left as it came, and what is not comes back.
+use Prim.Native.Nat.{ℕ, zero, suc, _+_, _-_, _≤_, _<_, _^_}
+use mathlib.Core.Path.{_≡_, refl, sym, ap, _∙_, subst}
+use mathlib.Core.Bool.{Bool, true, false, not, _||_, or-true, and-eq-true-iff}
+use mathlib.Core.List.{List, [], _∷_, _++_}
+use native.Mathlib.Omega.{arith}
+use native.Mathlib.Nat.{add-zero, zero-add, add-suc, suc-add}
+use borrow.Author.Tests.{not-true, not-false, ltb-false, le-ltb, lt-leb}
+use lib.ListN.{length, take}
+use Rattle.octets.proofs.Splice.{splice-length}
+use Rattle.rules.specs.Numbers.{storeLeast, parameterMost}
+use Rattle.rules.specs.Refusals.{Check, accepted, first, judged}
+use Rattle.rules.specs.Records.{recordLength}
+use Rattle.rules.specs.Places.{lowestFree, placeOf, isAt}
+use Rattle.rules.specs.Soundness.{sound}
+use Rattle.rules.specs.Delivery.{delivery}
+use Rattle.rules.specs.Receiving.{Reception, segment}
+use Rattle.rules.specs.Sending.{segmentOctets, sendingChecks, sending}
+use Rattle.rules.specs.Sending as rule
+use Rattle.rules.specs.Calls.{State, Arrives, step}
+use Rattle.rules.specs.Promises.{OfSending}
+use Rattle.rules.specs.declared.Table.{Table}
+use Rattle.rules.specs.declared.Request.{Request}
+use Rattle.rules.specs.declared.Sent.{Sent}
+use Rattle.rules.specs.declared.Decision.the-variants.{Refused}
+use Rattle.rules.proofs.Refusals.{Sharp, judged-append, judged-by, judged-first, judged-none, accepted-both, first-accepted, accepted-first}
+use Rattle.rules.proofs.Answers.{segment-by}
+use Rattle.rules.proofs.Cutting.{sendable, within-room, count-two, later-carries, first-leaves}
+use Rattle.demands.specs.Machine.{ours, Typed}
+use Rattle.demands.specs.Demand2.{Sending, numbered, kindIn, keyIn, header, countIn, segmentedIn, Sendable, sentBy, Meanwhile, stop, mine, other, Returns, RoundTrip}
+use Rattle.demands.proofs.Index.{demand-2}
+use Rattle.loopback.specs.Loopback.{fitChecks, loopChecks, Lap, lap, laps, standing, Looping, looping, lapOf, OfLap, OfReceipt, OfLoopback}
+use Rattle.loopback.specs.declared.Looped.{Looped}
+use Rattle.loopback.proofs.Laps.{one-lap}
+
+-- no check has the number 0
+some : (n : ℕ) → suc n ≡ 0 → ⊥
+some n e = omega (arith, e)
+
+fit-sharp : (t : Table) (store report area : ℕ) → Sharp (fitChecks t store report area)
+fit-sharp t store report area = (some 0, (some 1, (some 2, (some 19, (some 9, tt)))))
+
+sending-sharp : (t : Table) (q : Request) (o d whole area : List ℕ) → Sharp (sendingChecks t q o d whole area)
+unfolding sendingChecks
+sending-sharp t q o d whole area = (some 0, (some 7, (some 13, (some 8, (some 14, (some 16, (some 15, (some 17, (some 18, (some 19, tt))))))))))
+
+sharp-both : (xs ys : List Check) → Sharp xs → Sharp ys → Sharp (xs ++ ys)
+sharp-both [] ys a b = b
+sharp-both (x ∷ xs) ys a b = (a .0, sharp-both xs ys (a .1) b)
+
+-- where sending segment 0 is not refused, no segment is, in an area that any parameter fits
+module _ (x : Sending) (area : List ℕ)
+    (ok : accepted (sendingChecks (x .table) (numbered (x .request) 0) (x .origin) (x .destination) (x .whole) area) ≡ true) where
+  abbrev octets : ℕ → List ℕ
+  octets k = segmentOctets (kindIn x) (numbered (x .request) k) (x .origin) (x .destination) (x .whole)
+
+  also : (k : ℕ) → k < countIn x → (area′ : List ℕ) → length (octets k) ≤ length area′
+      → accepted (sendingChecks (x .table) (numbered (x .request) k) (x .origin) (x .destination) (x .whole) area′) ≡ true
+  unfolding sendingChecks
+  also k under area′ fits =
+      let all = simp and-eq-true-iff at ok in
+      let room = all .1 .1 .1 .1 in
+      let below = ap not (lt-leb (countIn x) k under) in
+      let inside = ap not (le-ltb (length area′) (length (octets k)) fits) in
+      simp and-eq-true-iff (all .0, (all .1 .0, (all .1 .1 .0, (all .1 .1 .1 .0, (room .0, (room .1 .0, (room .1 .1 .0, (room .1 .1 .1 .0, (below, (inside, refl))))))))))
+
+  sendable-all : Sendable x
+  sendable-all k under area′ wide =
+      let fits = within-room (x .table) (numbered (x .request) k) (x .origin) (x .destination) (x .whole) (octets k) (also k under (octets k) (omega arith)) .parameter in
+      also k under area′ (omega arith)
+
+-- the areas keep their lengths
+sending-length : (t : Table) (q : Request) (o d whole area : List ℕ) → length (sending t q o d whole area .area) ≡ length area
+unfolding sending
+sending-length t q o d whole area =
+    judged-by (λ (r : rule.Sending). length (r .area) ≡ length area) (sendingChecks t q o d whole area)
+    (λ n. record { answer = record { refusal = n; count = 0; length = 0 }; area = area }) _ (λ e. splice-length area 0 _) (λ e. refl)
+
+report-length : (t : Table) (store report : List ℕ) (association : ℕ) (s : List ℕ) → length (segment t store report association s .report) ≡ length report
+report-length t store report association s =
+    segment-by (λ (r : Reception). length (r .report) ≡ length report) t store report association s (λ e. splice-length report 0 _) (λ e. refl)
+
+-- segments that arrive one after the other
+more : {x : Sending} {areas : ℕ → List ℕ} {st st′ : State} {i j : ℕ} → Meanwhile ours x areas st i st′ j → (report : List ℕ) → recordLength ≤ length report
+    → Meanwhile ours x areas st i (step st′ (Arrives (x .association) (sentBy ours x areas j) report) .state) (suc j)
+more stop report room = mine report room stop
+more (mine again wide rest) report room = mine again wide (more rest report room)
+more (other c range spares rest) report room = other c range spares (more rest report room)
+
+module _ (x : Sending) (store report area : List ℕ) where
+  abbrev start : Lap
+  start = standing (x .table) store report area
+
+  -- the delivery after a lap
+  abbrev handed : Lap → List ℕ
+  handed l = delivery (l .decision) (take (l .length) (l .area)) (l .store)
+
+  -- after k segments
+  at : ℕ → Lap
+  at zero = standing (x .table) store report area
+  at (suc k) = lap x k (at k)
+
+  laps-at : (n k : ℕ) → laps n k x (at k) ≡ at (k + n)
+  unfolding laps at
+  laps-at zero k = rw add-zero
+  laps-at (suc n) k = laps-at n (suc k) ∙ rw (add-suc k n, suc-add k n)
+
+  area-at : (k : ℕ) → length (at k .area) ≡ length area
+  unfolding at
+  area-at zero = refl
+  area-at (suc k) = sending-length (x .table) (numbered (x .request) k) (x .origin) (x .destination) (x .whole) (at k .area) ∙ area-at k
+
+  report-at : (k : ℕ) → length (at k .report) ≡ length report
+  unfolding at
+  report-at zero = refl
+  report-at (suc k) = report-length (at k .table) (at k .store) (at k .report) (x .association) _ ∙ report-at k
+
+  abbrev areas : ℕ → List ℕ
+  areas k = at k .area
+
+  abbrev state : ℕ → State
+  state k = record { table = at k .table; store = at k .store }
+
+  meanwhile : (j : ℕ) → recordLength ≤ length report → Meanwhile ours x areas (state 1) 1 (state (suc j)) (suc j)
+  unfolding step at
+  meanwhile zero room = stop
+  meanwhile (suc j) room = more (meanwhile j room) (at (suc j) .report) (rw (report-at (suc j)) room)
+
+  module _ (ok : accepted (loopChecks x store report area) ≡ true) (typed : Typed (x .table)) (carrier : x .association < 2 ^ 16) where
+    both : (accepted (fitChecks (x .table) (length store) (length report) (length area)) ≡ true)
+        × (accepted (sendingChecks (x .table) (numbered (x .request) 0) (x .origin) (x .destination) (x .whole) area) ≡ true)
+    unfolding loopChecks
+    both =
+        accepted-both (fitChecks (x .table) (length store) (length report) (length area))
+        (sendingChecks (x .table) (numbered (x .request) 0) (x .origin) (x .destination) (x .whole) area) ok
+
+    record Fit : Type 0 where
+      good : sound (x .table) ≡ true
+      stores : storeLeast ≤ length store
+      reports : recordLength ≤ length report
+      wide : parameterMost ≤ length area
+      free : isAt (lowestFree (x .table .places)) ≡ true
+
+    fit : Fit
+    fit =
+        let all = simp and-eq-true-iff at (both .0) in
+        record {
+          good = not-false _ (not-true _ (all .0));
+          stores = ltb-false _ _ (not-true _ (all .1 .0));
+          reports = ltb-false _ _ (not-true _ (all .1 .1 .0));
+          wide = ltb-false _ _ (not-true _ (all .1 .1 .1 .0));
+          free = not-false _ (not-true _ (all .1 .1 .1 .1 .0));
+        }
+
+    trip : RoundTrip ours x (state 0) areas report
+    unfolding at
+    trip =
+        demand-2 .back x (sendable-all x area (both .1)) (state 0) (fit .good) typed refl (fit .stores) areas
+        (λ k. rw (area-at k) (fit .wide)) report (fit .reports) carrier
+
+    last-hands : (j : ℕ) → suc j ≡ countIn x → Returns ours x (state j) (sentBy ours x areas j) (at j .report) → handed (at (countIn x)) ≡ x .whole
+    unfolding step at
+    last-hands j e r = subst (λ (n : ℕ). handed (at n) ≡ x .whole) e (r .handed)
+
+    two-least : segmentedIn x ≡ true → 2 ≤ countIn x
+    two-least e =
+        let t = x .table in
+        let q = numbered (x .request) 0 in
+        count-two (header x) (x .request) (length (x .whole)) e (later-carries t q (x .origin) (x .destination) (x .whole) area (both .1) e)
+        (first-leaves t q (x .origin) (x .destination) (x .whole) area (both .1) e)
+
+    free-first : (isAt (placeOf (keyIn x) (x .table .places)) || isAt (lowestFree (x .table .places))) ≡ true
+    free-first = rw (fit .free) (or-true (isAt (placeOf (keyIn x) (x .table .places))))
+
+    back-by : (b : Bool) → segmentedIn x ≡ b → handed (at (countIn x)) ≡ x .whole
+    unfolding at step
+    back-by false e = last-hands 0 (sym (simp e)) (trip .alone e)
+    back-by true e =
+        let two = two-least e in
+        let j : ℕ = countIn x - 2 in
+        let last : suc (suc j) ≡ countIn x = omega arith in
+        last-hands (suc j) last
+        (trip .later e free-first (suc j) (omega arith) (state (suc j)) (meanwhile j (fit .reports)) (at (suc j) .report) (rw (report-at (suc j)) (fit .reports)) .1 last)
+
+    pub back : handed (laps (countIn x) 0 x start) ≡ x .whole
+    unfolding at
+    back = ap handed (laps-at (countIn x) 0) ∙ rw zero-add (back-by (segmentedIn x) refl)
+
+  abbrev fits : List Check
+  fits = fitChecks (x .table) (length store) (length report) (length area)
+
+  abbrev sends : List Check
+  sends = sendingChecks (x .table) (numbered (x .request) 0) (x .origin) (x .destination) (x .whole) area
+
+  abbrev sent : rule.Sending
+  sent = sending (x .table) (numbered (x .request) 0) (x .origin) (x .destination) (x .whole) area
+
+  abbrev unmoved : ℕ → Looping
+  unmoved n = record { number = n; lap = start }
+
+  -- refused by a condition on table and areas, or by the sender; or carried out
+  pub looping-unfit : (n : ℕ) → n ≡ first fits → (n ≡ 0 → ⊥) → looping x store report area ≡ unmoved n
+  unfolding looping loopChecks
+  looping-unfit n e nonzero = judged-append fits sends unmoved _ ∙ judged-first fits unmoved _ (λ z. nonzero (e ∙ z)) ∙ rw (sym e)
+
+  looping-fit : first fits ≡ 0 → looping x store report area ≡ judged sends unmoved (record { number = 0; lap = laps (countIn x) 0 x start })
+  unfolding looping loopChecks
+  looping-fit e = judged-append fits sends unmoved _ ∙ judged-none fits unmoved _ (fit-sharp (x .table) (length store) (length report) (length area)) e
+
+  unsent : (n : ℕ) → n ≡ sent .answer .refusal → (n ≡ 0 → ⊥) → (sent .area ≡ area) × (n ≡ first sends)
+  unfolding sending
+  unsent n e nonzero =
+      judged-by (λ (o : rule.Sending). n ≡ o .answer .refusal → (o .area ≡ area) × (n ≡ first sends)) sends
+      (λ n. record { answer = record { refusal = n; count = 0; length = 0 }; area = area }) _ (λ ok z. absurd (nonzero z)) (λ no z. (refl, z)) e
+
+  pub looping-unsent : (n : ℕ) → first fits ≡ 0 → n ≡ sent .answer .refusal → (n ≡ 0 → ⊥) → looping x store report area ≡ unmoved n
+  looping-unsent n e z nonzero =
+      let u = unsent n z nonzero in
+      looping-fit e ∙ judged-first sends unmoved _ (λ y. nonzero (u .1 ∙ y)) ∙ rw (sym (u .1))
+
+  pub area-unsent : (n : ℕ) → n ≡ sent .answer .refusal → (n ≡ 0 → ⊥) → sent .area ≡ area
+  area-unsent n z nonzero = unsent n z nonzero .0
+
+  sends-accepted : sent .answer .refusal ≡ 0 → accepted sends ≡ true
+  unfolding sending
+  sends-accepted =
+      judged-by (λ (o : rule.Sending). o .answer .refusal ≡ 0 → accepted sends ≡ true) sends
+      (λ n. record { answer = record { refusal = n; count = 0; length = 0 }; area = area }) _ (λ ok z. ok)
+      (λ no z. first-accepted sends (sending-sharp (x .table) (numbered (x .request) 0) (x .origin) (x .destination) (x .whole) area) z)
+
+  pub sent-count : sent .answer .refusal ≡ 0 → sent .answer .count ≡ countIn x
+  unfolding sending
+  sent-count z = rw (sends-accepted z)
+
+  pub count-some : sent .answer .refusal ≡ 0 → 1 ≤ countIn x
+  count-some z = let n = sendable (x .table) (numbered (x .request) 0) (x .origin) (x .destination) (x .whole) area (sends-accepted z) .number in omega arith
+
+  pub looping-done : first fits ≡ 0 → sent .answer .refusal ≡ 0 → looping x store report area ≡ record { number = 0; lap = laps (countIn x) 0 x start }
+  looping-done e z =
+      looping-fit e ∙ judged-none sends unmoved _ (sending-sharp (x .table) (numbered (x .request) 0) (x .origin) (x .destination) (x .whole) area)
+      (accepted-first sends (sends-accepted z))
+
+  -- the contract, of an answer that is the rule's
+  module _ (typed : Typed (x .table)) (carrier : x .association < 2 ^ 16) where
+    loop-sharp : Sharp (loopChecks x store report area)
+    unfolding loopChecks
+    loop-sharp =
+        sharp-both fits sends (fit-sharp (x .table) (length store) (length report) (length area))
+        (sending-sharp (x .table) (numbered (x .request) 0) (x .origin) (x .destination) (x .whole) area)
+
+    number-first : looping x store report area .number ≡ first (loopChecks x store report area)
+    unfolding looping
+    number-first =
+        judged-by (λ (o : Looping). o .number ≡ first (loopChecks x store report area)) (loopChecks x store report area) unmoved _
+        (λ ok. sym (accepted-first (loopChecks x store report area) ok)) (λ no. refl)
+
+    done : accepted (loopChecks x store report area) ≡ true → looping x store report area .lap ≡ laps (countIn x) 0 x start
+    unfolding looping
+    done ok = rw ok
+
+    pub kept : (answer : Looped) (store′ report′ area′ : List ℕ) → lapOf answer store′ report′ area′ ≡ looping x store report area .lap
+        → answer .number ≡ looping x store report area .number → OfLoopback x store report area answer store′ report′ area′
+    kept answer store′ report′ area′ l n =
+        let zero-only : answer .number ≡ 0 → accepted (loopChecks x store report area) ≡ true
+        = λ z. first-accepted (loopChecks x store report area) loop-sharp (sym number-first ∙ sym n ∙ z) in
+        record {
+          answered = λ i. record { table = l i .table; decision = l i .decision; length = l i .length; number = n i };
+          stored = λ i. l i .store;
+          reported = λ i. l i .report;
+          written = λ i. l i .area;
+          only = zero-only;
+          always = λ ok. n ∙ number-first ∙ accepted-first (loopChecks x store report area) ok;
+          returned = λ z. ap handed l ∙ ap handed (done (zero-only z)) ∙ back (zero-only z) typed carrier;
+        }
+
+    -- nothing was done
+    pub kept-unmoved : (n : ℕ) (answer : Looped) (area′ : List ℕ) → answer ≡ record { table = x .table; decision = Refused; length = 0; number = n }
+        → looping x store report area ≡ unmoved n → area′ ≡ area → OfLoopback x store report area answer store report area′
+    kept-unmoved n answer area′ a o e =
+        kept answer store report area′ ((λ i. lapOf (a i) store report (e i)) ∙ sym (ap (λ (o : Looping). o .lap) o)) ((λ i. a i .number) ∙ sym (ap (λ (o : Looping). o .number) o))
+
+  -- what the sender was asked for, and answered
+  module _ (q : Request) (s : Sent) (area′ : List ℕ) (asked-for : q ≡ numbered (x .request) 0)
+      (k : OfSending (x .table) q (x .origin) (x .destination) (x .whole) area s area′) where
+    pub refusal-is : s .refusal ≡ sent .answer .refusal
+    refusal-is = (λ i. k .answered i .refusal) ∙ (λ i. sending (x .table) (asked-for i) (x .origin) (x .destination) (x .whole) area .answer .refusal)
+
+    count-is : s .count ≡ sent .answer .count
+    count-is = (λ i. k .answered i .count) ∙ (λ i. sending (x .table) (asked-for i) (x .origin) (x .destination) (x .whole) area .answer .count)
+
+    pub area-is : area′ ≡ sent .area
+    area-is = k .written ∙ (λ i. sending (x .table) (asked-for i) (x .origin) (x .destination) (x .whole) area .area)
+
+    pub some-sent : s .refusal ≡ 0 → 1 ≤ s .count
+    some-sent z =
+        let r = sym refusal-is ∙ z in
+        let n = count-some r in
+        let e = count-is ∙ sent-count r in
+        omega arith
+
+    -- all segments
+    pub kept-done : (typed : Typed (x .table)) (carrier : x .association < 2 ^ 16) → first fits ≡ 0 → s .refusal ≡ 0
+        → (one : Looped) (store1 report1 : List ℕ) → OfReceipt (segment (x .table) store report (x .association) (take (s .length) area′)) (s .length) one store1 report1
+        → (answer : Looped) (store2 report2 area2 : List ℕ) → OfLap (laps (s .count - 1) 1 x (lapOf one store1 report1 area′)) answer store2 report2 area2
+        → OfLoopback x store report area answer store2 report2 area2
+    unfolding laps
+    kept-done typed carrier fit z one store1 report1 got answer store2 report2 area2 all =
+        let r = sym refusal-is ∙ z in
+        let n = count-some r in
+        let e : countIn x ≡ suc (s .count - 1) = let c = count-is ∙ sent-count r in omega arith in
+        let o = looping-done fit r in
+        let first-lap = one-lap x 0 (x .table) store report area area′ q s one store1 report1 asked-for k got .lapped in
+        let after : laps (suc (s .count - 1)) 0 x start ≡ laps (s .count - 1) 1 x (lap x 0 start) = refl in
+        kept typed carrier answer store2 report2 area2
+        (all .lapped ∙ ap (laps (s .count - 1) 1 x) first-lap ∙ sym after ∙ ap (λ (n : ℕ). laps n 0 x start) (sym e) ∙ sym (ap (λ (o : Looping). o .lap) o))
+        (all .number ∙ sym (ap (λ (o : Looping). o .number) o))

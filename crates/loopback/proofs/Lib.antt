@@ -1,0 +1,3 @@
+pub mod Laps
+pub mod Back
+pub mod Owned

@@ -1,0 +1,107 @@
+-- THE LOOPBACK: data is cut by the sender, and each segment is handed to the receiver as it is cut. Both use the caller's table, and the sender's stays as it came.
+use Prim.Native.Nat.{ℕ, zero, suc}
+use mathlib.Core.Path.{_≡_}
+use mathlib.Core.Bool.{true, not}
+use mathlib.Core.List.{List, [], _∷_, _++_}
+use lib.Dec.{ltb}
+use lib.ListN.{length, take}
+use Rattle.rules.specs.Numbers.{storeLeast, parameterMost}
+use Rattle.rules.specs.Refusals.{Check, _when_, accepted, judged}
+use Rattle.rules.specs.Records.{recordLength}
+use Rattle.rules.specs.Places.{lowestFree, isAt}
+use Rattle.rules.specs.Soundness.{sound}
+use Rattle.rules.specs.Receiving.{Reception, segment}
+use Rattle.rules.specs.Delivery.{delivery}
+use Rattle.rules.specs.Sending.{sendingChecks, sending}
+use Rattle.rules.specs.Sending as rule
+use Rattle.rules.specs.declared.Table.{Table}
+use Rattle.rules.specs.declared.Request.{Request}
+use Rattle.rules.specs.declared.Decision.{Decision}
+use Rattle.rules.specs.declared.Decision.the-variants.{Refused}
+use Rattle.demands.specs.Demand2.{Sending, numbered, countIn}
+use Rattle.loopback.specs.declared.Looped.{Looped}
+
+-- what is asked for, as demand 2 has it; a sender uses no store
+abbrev pub asked : Table → Request → ℕ → List ℕ → List ℕ → List ℕ → Sending
+asked t q association o d whole =
+    record { table = t; store = []; request = q; origin = o; destination = d; whole = whole; association = association }
+
+-- the conditions: the table is sound, the areas are long enough for any segment and its record, a place is free, and none of sending's own applies
+abbrev pub fitChecks : Table → ℕ → ℕ → ℕ → List Check
+fitChecks t store report area =
+    1 when not (sound t) ∷
+    2 when ltb store storeLeast ∷
+    3 when ltb report recordLength ∷
+    20 when ltb area parameterMost ∷
+    10 when not (isAt (lowestFree (t .places))) ∷ []
+
+unfoldable pub loopChecks : Sending → List ℕ → List ℕ → List ℕ → List Check
+loopChecks x store report area =
+    fitChecks (x .table) (length store) (length report) (length area)
+    ++ sendingChecks (x .table) (numbered (x .request) 0) (x .origin) (x .destination) (x .whole) area
+
+-- what there is between two segments: the receiver's table and areas, and of the last one its decision and its length
+pub record Lap : Type 0 where
+  pub table : Table
+  pub store : List ℕ
+  pub report : List ℕ
+  pub area : List ℕ
+  pub decision : Decision
+  pub length : ℕ
+
+-- segment k is cut, and received
+abbrev pub lap : Sending → ℕ → Lap → Lap
+lap x k l =
+    let o : rule.Sending = sending (x .table) (numbered (x .request) k) (x .origin) (x .destination) (x .whole) (l .area) in
+    let r : Reception = segment (l .table) (l .store) (l .report) (x .association) (take (o .answer .length) (o .area)) in
+    record { table = r .answer .table; store = r .store; report = r .report; area = o .area; decision = r .answer .decision; length = o .answer .length }
+
+-- n segments from segment k on
+unfoldable pub laps : ℕ → ℕ → Sending → Lap → Lap
+laps zero k x l = l
+laps (suc n) k x l = laps n (suc k) x (lap x k l)
+
+abbrev pub standing : Table → List ℕ → List ℕ → List ℕ → Lap
+standing t store report area = record { table = t; store = store; report = report; area = area; decision = Refused; length = 0 }
+
+pub record Looping : Type 0 where
+  pub number : ℕ
+  pub lap : Lap
+
+-- refused by the first condition that fails, with nothing changed; or all segments
+unfoldable pub looping : Sending → List ℕ → List ℕ → List ℕ → Looping
+looping x store report area =
+    judged (loopChecks x store report area)
+    (λ n. record { number = n; lap = standing (x .table) store report area })
+    (record { number = 0; lap = laps (countIn x) 0 x (standing (x .table) store report area) })
+
+-- the answer by value
+abbrev pub loopedOf : Looping → Looped
+loopedOf o = record { table = o .lap .table; decision = o .lap .decision; length = o .lap .length; number = o .number }
+
+pub record OfLoopback (x : Sending) (store report area : List ℕ) (answer : Looped) (store′ report′ area′ : List ℕ) : Type 0 where
+  pub answered : answer ≡ loopedOf (looping x store report area)
+  pub stored : store′ ≡ looping x store report area .lap .store
+  pub reported : report′ ≡ looping x store report area .lap .report
+  pub written : area′ ≡ looping x store report area .lap .area
+  -- its number is 0 exactly where no condition fails
+  pub only : answer .number ≡ 0 → accepted (loopChecks x store report area) ≡ true
+  pub always : accepted (loopChecks x store report area) ≡ true → answer .number ≡ 0
+  -- and then the delivery asked for with the answer, the last segment and the store is the data
+  pub returned : answer .number ≡ 0 → delivery (answer .decision) (take (answer .length) area′) store′ ≡ x .whole
+
+-- a lap, and one segment's receipt, as the code answers them
+abbrev pub lapOf : Looped → List ℕ → List ℕ → List ℕ → Lap
+lapOf l store report area = record { table = l .table; store = store; report = report; area = area; decision = l .decision; length = l .length }
+
+pub record OfLap (want : Lap) (answer : Looped) (store′ report′ area′ : List ℕ) : Type 0 where
+  pub lapped : lapOf answer store′ report′ area′ ≡ want
+  pub number : answer .number ≡ 0
+
+abbrev pub received : Reception → ℕ → Looped
+received r n = record { table = r .answer .table; decision = r .answer .decision; length = n; number = 0 }
+
+pub record OfReceipt (want : Reception) (n : ℕ) (answer : Looped) (store′ report′ : List ℕ) : Type 0 where
+  pub answered : answer ≡ received want n
+  pub stored : store′ ≡ want .store
+  pub reported : report′ ≡ want .report
