@@ -1,0 +1,384 @@
+/*
+ * egrynnol.h - application transport of ITU-T Q.765 for signalling gateways
+ *
+ * Six calls: open a table, receive a segment, tick the clock, release an
+ * association, take a delivery, cut data into segments. The library keeps no
+ * state, allocates nothing and reads nothing but what it is handed. All it
+ * knows is in the table, which the host holds and hands on from call to call.
+ *
+ * Structs go by value. A lent area is a pointer and its length in octets.
+ * Octets and numbers of the records are described at EGRYNNOL_RECORD.
+ * Link with -legrynnol. See egrynnol(3).
+ *
+ * WHAT THE HOST OWES. The library cannot check these:
+ *
+ * - The areas of one call do not overlap.
+ * - Each length is true: so many octets are there, and may be read, or written
+ *   where the pointer is not const.
+ * - No pointer is NULL, not even for length 0: give the address of any octet.
+ * - One thread at a time for a table and its store.
+ * - The table is handed on as the last call left it, whether it was refused or
+ *   not. (A table that is not sound is refused; one that is sound but is not
+ *   the last one is answered, and wrongly.)
+ * - The store is lent to nothing else while a sequence is open, and is not
+ *   written by the host between the calls.
+ * - A delivery is taken before the next call that gets the store or changes the
+ *   parameter. The host takes just the part that egrynnol_delivery answers.
+ */
+#ifndef EGRYNNOL_H
+#define EGRYNNOL_H
+
+#include <stddef.h>
+#include <stdint.h>
+
+/* The library is built for LP64: 64-bit size_t, long and pointers. */
+#if defined(__SIZEOF_SIZE_T__) && defined(__SIZEOF_LONG__)
+#if __SIZEOF_SIZE_T__ != 8 || __SIZEOF_LONG__ != 8
+#error "egrynnol.h: this library needs an LP64 target (64-bit size_t and long)"
+#endif
+#endif
+
+#ifdef __cplusplus
+extern "C" {
+#endif
+
+/* ---- Numbers ---- */
+
+#define EGRYNNOL_PLACES 16          /* places of a table: open sequences at a time */
+#define EGRYNNOL_CONTEXTS 8         /* registered contexts at most */
+#define EGRYNNOL_CONTEXT_MOST 16383 /* contexts are 1 to this */
+#define EGRYNNOL_TIMER_MOST 1000000 /* T is 1 to this, in ticks */
+#define EGRYNNOL_DATA 2048          /* octets of data at most; also the stretch of a place in the store */
+#define EGRYNNOL_SEGMENTS 10        /* segments of a sequence at most */
+#define EGRYNNOL_PARAMETER 255      /* octets of a parameter at most */
+#define EGRYNNOL_ADDRESS 20         /* octets of an address at most */
+
+/* The least lengths of the lent areas. */
+#define EGRYNNOL_STORE 32768        /* store: place p has the octets from 2048 x p on */
+#define EGRYNNOL_REPORT_SEGMENT 32  /* report of egrynnol_segment: 1 record */
+#define EGRYNNOL_REPORT_SWEEP 512   /* report of egrynnol_clock and egrynnol_release: 16 records */
+
+/* egrynnol_decision.place where there is no place. */
+#define EGRYNNOL_NO_PLACE 16
+
+/* ---- The registry: records of 3 octets, one after the other ----
+ * Kind octet, then the context, most significant octet first. */
+
+#define EGRYNNOL_KIND_1998 1        /* a context of 1998: no address fields */
+#define EGRYNNOL_KIND_2000 2        /* a context of 2000: originating and destination address */
+#define EGRYNNOL_REGISTRY_RECORD 3  /* octets of a registry record */
+
+/* ---- The report: records of 32 octets, from the front of the area ----
+ * Numbers are most significant octet first. */
+
+#define EGRYNNOL_RECORD 32          /* octets of a record, with its kind octet */
+#define EGRYNNOL_KIND_DELIVERED 16
+#define EGRYNNOL_KIND_LOST 17
+#define EGRYNNOL_NO_REFERENCE 255   /* reference of an unsegmented parameter */
+
+/* Where the fields of a record start. */
+#define EGRYNNOL_AT_KIND 0
+#define EGRYNNOL_AT_ASSOCIATION 1     /* 2 octets */
+#define EGRYNNOL_AT_CONTEXT 3         /* 2 octets */
+#define EGRYNNOL_AT_REFERENCE 5       /* 0 to 127, or EGRYNNOL_NO_REFERENCE */
+#define EGRYNNOL_AT_INSTRUCTION 6     /* of the first segment of the sequence; of this segment where none was open */
+#define EGRYNNOL_AT_CAUSE 7           /* 0 in Delivered */
+#define EGRYNNOL_AT_SEGMENTS 8        /* segments covered */
+#define EGRYNNOL_AT_OCTETS 9          /* 2 octets: octets of information covered */
+#define EGRYNNOL_AT_ORIGIN_LENGTH 11  /* 0 to 20 */
+#define EGRYNNOL_AT_ORIGIN 12         /* 20 octets, zero filled */
+
+/* Causes of a loss. */
+enum egrynnol_cause {
+    EGRYNNOL_CAUSE_NOT_OPEN = 1,  /* subsequent, key not open: this segment */
+    EGRYNNOL_CAUSE_ORDER = 2,     /* remaining is not one less than before: saved and this */
+    EGRYNNOL_CAUSE_RESTART = 3,   /* new, key open: what was saved; this segment starts the sequence anew */
+    EGRYNNOL_CAUSE_REMAINING = 4, /* remaining over 9: the open sequence of that key, if any, and this */
+    EGRYNNOL_CAUSE_OCTETS = 5,    /* saved plus this is over 2,048 octets: saved and this */
+    EGRYNNOL_CAUSE_TIMER = 6,     /* age is T or more, at a clock call */
+    EGRYNNOL_CAUSE_RELEASE = 7    /* the association was released */
+};
+
+/* The instruction is a sum of these. */
+#define EGRYNNOL_RELEASE_CALL 1
+#define EGRYNNOL_SEND_NOTIFICATION 2
+
+/* ---- Refusal numbers ----
+ * A refused call answers its number, the table as it came (opening: the all-zero
+ * table), 0 records, and for sending a count of 0. No lent octet is altered. */
+enum egrynnol_refusal {
+    EGRYNNOL_GOOD = 0,                      /* not refused */
+    EGRYNNOL_REFUSAL_TABLE = 1,             /* table not sound */
+    EGRYNNOL_REFUSAL_STORE = 2,             /* store under 32,768 */
+    EGRYNNOL_REFUSAL_REPORT = 3,            /* report area under 32 (segment) or 512 (clock, release) */
+    EGRYNNOL_REFUSAL_PARAMETER = 4,         /* parameter over 255 */
+    EGRYNNOL_REFUSAL_CUT = 5,               /* parameter ends inside its fields */
+    EGRYNNOL_REFUSAL_EXTENSION = 6,         /* octet 1a, 2 or 3a has extension 0 */
+    EGRYNNOL_REFUSAL_OCTET_3A = 7,          /* octet 3a present or absent wrongly */
+    EGRYNNOL_REFUSAL_CONTEXT = 8,           /* context not registered */
+    EGRYNNOL_REFUSAL_ADDRESS = 9,           /* address over 20 */
+    EGRYNNOL_REFUSAL_FULL = 10,             /* a new sequence, and no place is free */
+    EGRYNNOL_REFUSAL_REGISTRY = 11,         /* registry: unknown kind, cut record, context out of range or listed twice, over 8 */
+    EGRYNNOL_REFUSAL_TIMER = 12,            /* T out of range */
+    EGRYNNOL_REFUSAL_STEP = 13,             /* clock step 2^31 or more */
+    EGRYNNOL_REFUSAL_DATA = 14,             /* data over 2,048 */
+    EGRYNNOL_REFUSAL_ADDRESS_1998 = 15,     /* address of non-zero length with a context of 1998 */
+    EGRYNNOL_REFUSAL_REFERENCE = 16,        /* reference over 127 */
+    EGRYNNOL_REFUSAL_INSTRUCTION = 17,      /* instruction over 3 */
+    EGRYNNOL_REFUSAL_ROOM = 18,             /* R1 or R over 255; or segmented and R1 < h + 1, R < h + 2, or more than 10 segments */
+    EGRYNNOL_REFUSAL_NUMBER = 19,           /* segment number not below the count */
+    EGRYNNOL_REFUSAL_AREA = 20              /* lent area shorter than the segment */
+};
+
+/* ---- The table ----
+ * The host holds it and hands it on; it has no need to look inside. Structs have
+ * octets that belong to no field: do not compare tables with memcmp. */
+
+typedef struct egrynnol_key {
+    uint8_t address[EGRYNNOL_ADDRESS]; /* originating address, zero filled */
+    uint16_t association;
+    uint16_t context;
+    uint8_t reference;
+    uint8_t length;             /* of the originating address */
+} egrynnol_key;
+
+typedef struct egrynnol_place {
+    egrynnol_key key;
+    uint16_t octets;            /* saved so far */
+    uint32_t start;             /* time of the first segment */
+    uint8_t mark;               /* 1 open, 0 free; a free place is all zero */
+    uint8_t instruction;        /* of the first segment */
+    uint8_t remaining;          /* of the last segment */
+    uint8_t segments;           /* saved so far */
+} egrynnol_place;
+
+typedef struct egrynnol_entry {
+    uint16_t context;
+    uint8_t kind;               /* EGRYNNOL_KIND_1998, EGRYNNOL_KIND_2000; 0 for an unused entry */
+} egrynnol_entry;
+
+typedef struct egrynnol_table {
+    egrynnol_place places[EGRYNNOL_PLACES];
+    egrynnol_entry registry[EGRYNNOL_CONTEXTS];
+    uint32_t timer;             /* T; 0 in the unopened table, which every call but opening refuses with 1 */
+    uint32_t clock;
+} egrynnol_table;
+
+/* ---- Answers ---- */
+
+/* What became of a segment. A field that has no meaning for the kind is 0,
+ * and place is EGRYNNOL_NO_PLACE where there is none. */
+enum egrynnol_decision_kind {
+    EGRYNNOL_REFUSED = 0,             /* see the refusal number */
+    EGRYNNOL_SAVED = 1,               /* saved in place */
+    EGRYNNOL_DELIVERED_PARAMETER = 2, /* delivered: the part of the parameter at start, of length */
+    EGRYNNOL_DELIVERED_STORE = 3,     /* delivered: the first length octets of place's stretch of the store */
+    EGRYNNOL_LOST = 4                 /* lost, for cause; place is that of the sequence, if one was open */
+};
+
+typedef struct egrynnol_decision {
+    size_t place;
+    size_t start;
+    size_t length;
+    uint8_t kind;               /* enum egrynnol_decision_kind */
+    uint8_t cause;              /* enum egrynnol_cause where lost */
+} egrynnol_decision;
+
+typedef struct egrynnol_received {
+    egrynnol_table table;
+    egrynnol_decision decision;
+    uint8_t refusal;
+    uint8_t records;            /* 0 or 1 */
+} egrynnol_received;
+
+typedef struct egrynnol_swept {
+    egrynnol_table table;
+    uint8_t refusal;
+    uint8_t records;            /* 0 to 16 */
+} egrynnol_swept;
+
+typedef struct egrynnol_opened {
+    egrynnol_table table;
+    uint8_t refusal;
+} egrynnol_opened;
+
+/* What egrynnol_sending is to write. */
+typedef struct egrynnol_request {
+    uint16_t context;
+    uint8_t instruction;        /* 0 to 3 */
+    uint8_t reference;          /* 0 to 127, also where the parameter is unsegmented */
+    size_t room1;               /* R1: octets of the whole parameter in the first message, to 255 */
+    size_t room;                /* R: the same in each later message, to 255 */
+    size_t number;              /* which segment, from 0 */
+} egrynnol_request;
+
+typedef struct egrynnol_sent {
+    uint8_t refusal;
+    uint8_t count;              /* segments in all; 0 if refused */
+    uint16_t length;            /* octets of this segment, at the front of the area */
+} egrynnol_sent;
+
+/* A part of a lent area. An empty part is 0, 0, 0. */
+typedef struct egrynnol_part {
+    size_t start;
+    size_t length;
+    uint8_t source;             /* EGRYNNOL_OF_PARAMETER or EGRYNNOL_OF_STORE */
+} egrynnol_part;
+
+#define EGRYNNOL_OF_PARAMETER 0
+#define EGRYNNOL_OF_STORE 1
+
+/* ---- The calls ---- */
+
+/*
+ * egrynnol_opening - a table with no open place.
+ *
+ * registry: 0 to 8 records of 3 octets, see above; length 0 is allowed.
+ * timer: T, 1 to 1,000,000. clock: the time now, any.
+ *
+ * Answers the table and the refusal. Changes nothing. Opening again drops what
+ * is open in the old table, with no record.
+ *
+ * Refusals, in this order: 12, 11. Refused, the table is the unopened one, all
+ * zero.
+ */
+egrynnol_opened egrynnol_opening(const uint8_t *registry, size_t registry_length,
+                                 uint32_t timer, uint32_t clock);
+
+/*
+ * egrynnol_segment - receives one parameter on an association.
+ *
+ * Answers the table, what became of the segment, the refusal and the number of
+ * records (0 or 1). A record goes to the front of report; the rest of report
+ * stays. Of the store, only the octets of the newly saved information change,
+ * in the stretch of the segment's own place; the final segment of a sequence is
+ * saved too. After EGRYNNOL_LOST with cause 3 the segment is saved as the start
+ * of a new sequence, in the same place.
+ *
+ * The destination address is read and passed over. What the information means
+ * is not looked at.
+ *
+ * Refusals, in this order: 1, 2, 3, 4; then 5 to 9 by the parameter's octets from
+ * left to right; then 10.
+ */
+egrynnol_received egrynnol_segment(egrynnol_table table, uint8_t *store, size_t store_length,
+                                   uint8_t *report, size_t report_length, uint16_t association,
+                                   const uint8_t *parameter, size_t parameter_length);
+
+/*
+ * egrynnol_clock - sets the time and runs the timer.
+ *
+ * The clock is 32 bits and runs round: the step is time less the table's clock,
+ * modulo 2^32. Every sequence of age T or more is lost, cause 6.
+ *
+ * Answers the table, the refusal and the number of records (0 to 16). Records go
+ * to the front of report in place order; the rest of report stays. A step of 0 is
+ * good. A sequence is lost by the timer only here, so call it often enough.
+ *
+ * Refusals, in this order: 1, 3, 13.
+ */
+egrynnol_swept egrynnol_clock(egrynnol_table table, uint8_t *report, size_t report_length,
+                              uint32_t time);
+
+/*
+ * egrynnol_release - ends an association.
+ *
+ * Every sequence of the association is lost, cause 7. With none open there is
+ * no record and no refusal.
+ *
+ * Answers the table, the refusal and the number of records (0 to 16). Records go
+ * to the front of report in place order; the rest of report stays.
+ *
+ * Refusals, in this order: 1, 3.
+ */
+egrynnol_swept egrynnol_release(egrynnol_table table, uint8_t *report, size_t report_length,
+                                uint16_t association);
+
+/*
+ * egrynnol_delivery - where the delivered data is.
+ *
+ * decision: that of the egrynnol_segment call that delivered. parameter, store:
+ * the same areas as in that call, as it left them.
+ *
+ * Answers a part of the parameter or a part of the store. Any other decision, or
+ * a part not inside the parameter, the store or the place's own 2,048 octets,
+ * gives the empty part. Changes nothing, refuses nothing. Take the data before
+ * the next call: the place is free, and a new sequence may use it.
+ */
+egrynnol_part egrynnol_delivery(egrynnol_decision decision,
+                                const uint8_t *parameter, size_t parameter_length,
+                                const uint8_t *store, size_t store_length);
+
+/*
+ * egrynnol_sending - writes one segment of data.
+ *
+ * Only the registry of the table is used; the table is not changed. Call with
+ * request.number 0 first: the answer has the count of segments. Then call with
+ * 1 to count - 1, all else the same. If it all fits into room1 octets there is
+ * one segment, and the reference is not written.
+ *
+ * Answers the refusal, the count and the length of this segment. The segment goes
+ * to the front of area; the rest of area stays. 255 octets are always enough.
+ *
+ * A context of 1998 has no addresses: give length 0 for both.
+ *
+ * Refusals, in this order: 1, 8, 14, 9, 15, 17, 16, 18, 19, 20.
+ */
+egrynnol_sent egrynnol_sending(egrynnol_table table, egrynnol_request request,
+                               const uint8_t *origin, size_t origin_length,
+                               const uint8_t *destination, size_t destination_length,
+                               const uint8_t *data, size_t data_length,
+                               uint8_t *area, size_t area_length);
+
+/* ---- The layout that the library was built with, checked by the compiler ----
+ * A negative array size here means that this compiler lays the structs out
+ * otherwise, and that linking with the library would go wrong. */
+
+#define EGRYNNOL_CHECK(name, truth) typedef char egrynnol_check_##name[(truth) ? 1 : -1]
+
+EGRYNNOL_CHECK(lp64_target_needed, sizeof(size_t) == 8 && sizeof(long) == 8 && sizeof(void *) == 8);
+
+EGRYNNOL_CHECK(key, sizeof(egrynnol_key) == 26
+               && offsetof(egrynnol_key, address) == 0 && offsetof(egrynnol_key, association) == 20
+               && offsetof(egrynnol_key, context) == 22 && offsetof(egrynnol_key, reference) == 24
+               && offsetof(egrynnol_key, length) == 25);
+EGRYNNOL_CHECK(place, sizeof(egrynnol_place) == 36
+               && offsetof(egrynnol_place, key) == 0 && offsetof(egrynnol_place, octets) == 26
+               && offsetof(egrynnol_place, start) == 28 && offsetof(egrynnol_place, mark) == 32
+               && offsetof(egrynnol_place, instruction) == 33 && offsetof(egrynnol_place, remaining) == 34
+               && offsetof(egrynnol_place, segments) == 35);
+EGRYNNOL_CHECK(entry, sizeof(egrynnol_entry) == 4
+               && offsetof(egrynnol_entry, context) == 0 && offsetof(egrynnol_entry, kind) == 2);
+EGRYNNOL_CHECK(table, sizeof(egrynnol_table) == 616
+               && offsetof(egrynnol_table, places) == 0 && offsetof(egrynnol_table, registry) == 576
+               && offsetof(egrynnol_table, timer) == 608 && offsetof(egrynnol_table, clock) == 612);
+EGRYNNOL_CHECK(decision, sizeof(egrynnol_decision) == 32
+               && offsetof(egrynnol_decision, place) == 0 && offsetof(egrynnol_decision, start) == 8
+               && offsetof(egrynnol_decision, length) == 16 && offsetof(egrynnol_decision, kind) == 24
+               && offsetof(egrynnol_decision, cause) == 25);
+EGRYNNOL_CHECK(received, sizeof(egrynnol_received) == 656
+               && offsetof(egrynnol_received, table) == 0 && offsetof(egrynnol_received, decision) == 616
+               && offsetof(egrynnol_received, refusal) == 648 && offsetof(egrynnol_received, records) == 649);
+EGRYNNOL_CHECK(swept, sizeof(egrynnol_swept) == 620
+               && offsetof(egrynnol_swept, table) == 0 && offsetof(egrynnol_swept, refusal) == 616
+               && offsetof(egrynnol_swept, records) == 617);
+EGRYNNOL_CHECK(opened, sizeof(egrynnol_opened) == 620
+               && offsetof(egrynnol_opened, table) == 0 && offsetof(egrynnol_opened, refusal) == 616);
+EGRYNNOL_CHECK(request, sizeof(egrynnol_request) == 32
+               && offsetof(egrynnol_request, context) == 0 && offsetof(egrynnol_request, instruction) == 2
+               && offsetof(egrynnol_request, reference) == 3 && offsetof(egrynnol_request, room1) == 8
+               && offsetof(egrynnol_request, room) == 16 && offsetof(egrynnol_request, number) == 24);
+EGRYNNOL_CHECK(sent, sizeof(egrynnol_sent) == 4
+               && offsetof(egrynnol_sent, refusal) == 0 && offsetof(egrynnol_sent, count) == 1
+               && offsetof(egrynnol_sent, length) == 2);
+EGRYNNOL_CHECK(part, sizeof(egrynnol_part) == 24
+               && offsetof(egrynnol_part, start) == 0 && offsetof(egrynnol_part, length) == 8
+               && offsetof(egrynnol_part, source) == 16);
+
+#undef EGRYNNOL_CHECK
+
+#ifdef __cplusplus
+}
+#endif
+
+#endif
