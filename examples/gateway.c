@@ -1,0 +1,280 @@
+/*
+ * gateway.c - a small host of the Egrynnol library.
+ *
+ * It cuts a message into segments, receives them, takes the delivery, loses a
+ * sequence by the timer and another by a release. It prints each step, checks
+ * each answer, and ends with status 1 at the first that is not as expected.
+ *
+ *   cc -std=c99 -Iinclude examples/gateway.c LIBRARY -o gateway && ./gateway
+ */
+#include <stdio.h>
+#include <stdlib.h>
+#include <string.h>
+
+#include "egrynnol.h"
+
+/* All that a gateway has to keep: the table, and the areas that it lends. */
+static struct {
+    egrynnol_table table;
+    uint8_t store[EGRYNNOL_STORE];
+    uint8_t report[EGRYNNOL_REPORT_SWEEP];
+} gate;
+
+/* One parameter, as it goes over the line. */
+typedef struct parameter {
+    uint8_t octets[EGRYNNOL_PARAMETER];
+    size_t length;
+} parameter;
+
+static const uint8_t message[] = "Please call back at 7 tonight.";
+static const size_t message_length = sizeof message - 1;
+
+static const uint8_t origin[] = {0x00, 0x07};
+static const uint8_t destination[] = {0x31};
+
+/* Length 0 needs an address too, never NULL. */
+static const uint8_t nothing[1] = {0};
+
+static void check(int truth, const char *what)
+{
+    if (!truth) {
+        fflush(stdout);
+        fprintf(stderr, "gateway: not as expected: %s\n", what);
+        exit(1);
+    }
+}
+
+/* ---- Records ---- */
+
+static unsigned two(const uint8_t *at)
+{
+    return at[0] * 256u + at[1];
+}
+
+static const char *cause_in_words(unsigned cause)
+{
+    static const char *const words[] = {
+        "none", "belongs to nothing", "out of order", "restart", "too many remaining",
+        "too many octets", "timer", "release"
+    };
+    return cause < sizeof words / sizeof *words ? words[cause] : "unknown";
+}
+
+static void print_record(const uint8_t *record)
+{
+    unsigned k, cause = record[EGRYNNOL_AT_CAUSE];
+    int lost = record[EGRYNNOL_AT_KIND] == EGRYNNOL_KIND_LOST;
+
+    check(lost || record[EGRYNNOL_AT_KIND] == EGRYNNOL_KIND_DELIVERED, "the kind of a record");
+    check(record[EGRYNNOL_AT_ORIGIN_LENGTH] <= EGRYNNOL_ADDRESS, "the origin's length in a record");
+    printf("  record: %s, association %u, context %u", lost ? "lost" : "delivered",
+           two(record + EGRYNNOL_AT_ASSOCIATION), two(record + EGRYNNOL_AT_CONTEXT));
+    if (record[EGRYNNOL_AT_REFERENCE] == EGRYNNOL_NO_REFERENCE)
+        printf(", no reference");
+    else
+        printf(", reference %u", record[EGRYNNOL_AT_REFERENCE]);
+    printf(", instruction %u", record[EGRYNNOL_AT_INSTRUCTION]);
+    if (lost)
+        printf(", cause %u (%s)", cause, cause_in_words(cause));
+    printf(", segments %u, octets %u, origin", record[EGRYNNOL_AT_SEGMENTS],
+           two(record + EGRYNNOL_AT_OCTETS));
+    for (k = 0; k < record[EGRYNNOL_AT_ORIGIN_LENGTH]; k++)
+        printf(" %02X", record[EGRYNNOL_AT_ORIGIN + k]);
+    printf("%s\n", k ? "" : " none");
+}
+
+static void print_records(unsigned count)
+{
+    unsigned k;
+
+    for (k = 0; k < count; k++)
+        print_record(gate.report + k * EGRYNNOL_RECORD);
+}
+
+/* Whether the first record says what happened to so many segments and octets. */
+static int record_says(unsigned kind, unsigned cause, unsigned segments, size_t octets)
+{
+    return gate.report[EGRYNNOL_AT_KIND] == kind && gate.report[EGRYNNOL_AT_CAUSE] == cause
+        && gate.report[EGRYNNOL_AT_SEGMENTS] == segments && two(gate.report + EGRYNNOL_AT_OCTETS) == octets;
+}
+
+/* ---- The calls ---- */
+
+static void open_gate(void)
+{
+    static const uint8_t registry[] = {EGRYNNOL_KIND_1998, 0, 3, EGRYNNOL_KIND_2000, 0, 4};
+    egrynnol_opened opened = egrynnol_opening(registry, sizeof registry, 100, 0);
+
+    check(opened.refusal == EGRYNNOL_GOOD, "opening is not refused");
+    gate.table = opened.table;
+    printf("open: context 3 of 1998, context 4 of 2000, T 100, clock 0\n");
+}
+
+/* Cuts the message for context 4; answers how many segments there are. */
+static unsigned cut_message(parameter *segments)
+{
+    egrynnol_request request = {4, EGRYNNOL_RELEASE_CALL, 5, 24, 20, 0};
+    egrynnol_sent sent;
+
+    printf("cut: %u octets into segments of", (unsigned)message_length);
+    do {
+        parameter *segment = segments + request.number;
+        sent = egrynnol_sending(gate.table, request, origin, sizeof origin, destination, sizeof destination,
+                                message, message_length, segment->octets, sizeof segment->octets);
+        check(sent.refusal == EGRYNNOL_GOOD, "sending is not refused");
+        check(sent.count <= EGRYNNOL_SEGMENTS && sent.length <= sizeof segment->octets, "what sending answers");
+        segment->length = sent.length;
+        printf(" %u", sent.length);
+        request.number++;
+    } while (request.number < sent.count);
+    printf(" octets\n");
+    return sent.count;
+}
+
+/* Receives one parameter. The table goes on, whether refused or not. */
+static egrynnol_received receive(uint16_t association, const parameter *segment)
+{
+    egrynnol_received received =
+        egrynnol_segment(gate.table, gate.store, sizeof gate.store, gate.report, sizeof gate.report,
+                         association, segment->octets, segment->length);
+
+    gate.table = received.table;
+    printf("segment, association %u: ", association);
+    switch (received.decision.kind) {
+    case EGRYNNOL_REFUSED:
+        printf("refused, %u\n", received.refusal);
+        break;
+    case EGRYNNOL_SAVED:
+        printf("saved in place %u\n", (unsigned)received.decision.place);
+        break;
+    case EGRYNNOL_DELIVERED_PARAMETER:
+    case EGRYNNOL_DELIVERED_STORE:
+        printf("delivered\n");
+        break;
+    case EGRYNNOL_LOST:
+        printf("lost, cause %u (%s)\n", received.decision.cause, cause_in_words(received.decision.cause));
+        break;
+    default:
+        check(0, "the kind of a decision");
+    }
+    print_records(received.records);
+    return received;
+}
+
+/* Takes a delivery, before any other call, and compares it with what was sent. */
+static void take(egrynnol_decision decision, const parameter *segment, const uint8_t *data, size_t length)
+{
+    egrynnol_part part = egrynnol_delivery(decision, segment->octets, segment->length, gate.store, sizeof gate.store);
+    const uint8_t *from = part.source == EGRYNNOL_OF_STORE ? gate.store : segment->octets;
+
+    check(part.length == length, "the length of a delivery");
+    check(memcmp(from + part.start, data, length) == 0, "the octets of a delivery");
+    printf("  taken: %u octets of the %s, the same as sent\n", (unsigned)part.length,
+           part.source == EGRYNNOL_OF_STORE ? "store" : "parameter");
+}
+
+static unsigned tick(uint32_t time)
+{
+    egrynnol_swept swept = egrynnol_clock(gate.table, gate.report, sizeof gate.report, time);
+
+    check(swept.refusal == EGRYNNOL_GOOD, "the clock is not refused");
+    gate.table = swept.table;
+    printf("clock %u: %u lost\n", (unsigned)time, swept.records);
+    print_records(swept.records);
+    return swept.records;
+}
+
+static unsigned hang_up(uint16_t association)
+{
+    egrynnol_swept swept = egrynnol_release(gate.table, gate.report, sizeof gate.report, association);
+
+    check(swept.refusal == EGRYNNOL_GOOD, "the release is not refused");
+    gate.table = swept.table;
+    printf("release %u: %u lost\n", association, swept.records);
+    print_records(swept.records);
+    return swept.records;
+}
+
+/* ---- The story ---- */
+
+/* All segments but the last are saved; the last one delivers the message. */
+static void joined(uint16_t association, const parameter *segments, unsigned from, unsigned count)
+{
+    egrynnol_received received;
+    unsigned k;
+
+    for (k = from; k + 1 < count; k++) {
+        received = receive(association, segments + k);
+        check(received.decision.kind == EGRYNNOL_SAVED && received.records == 0, "a segment is saved");
+    }
+    received = receive(association, segments + k);
+    check(received.decision.kind == EGRYNNOL_DELIVERED_STORE && received.records == 1, "the last segment delivers");
+    check(record_says(EGRYNNOL_KIND_DELIVERED, 0, count, message_length), "the record of a joined delivery");
+    take(received.decision, segments + k, message, message_length);
+}
+
+/* A short answer fits into one parameter and touches no place. */
+static void in_one_piece(void)
+{
+    static const uint8_t answer[] = {'y', 'e', 's'};
+    egrynnol_request request = {3, 0, 0, 255, 255, 0};
+    egrynnol_received received;
+    parameter one;
+    egrynnol_sent sent = egrynnol_sending(gate.table, request, nothing, 0, nothing, 0,
+                                          answer, sizeof answer, one.octets, sizeof one.octets);
+
+    check(sent.refusal == EGRYNNOL_GOOD && sent.count == 1, "a short answer is one segment");
+    one.length = sent.length;
+    printf("cut: %u octets into a parameter of %u octets\n", (unsigned)sizeof answer, sent.length);
+    received = receive(9, &one);
+    check(received.decision.kind == EGRYNNOL_DELIVERED_PARAMETER && received.records == 1, "one piece delivers");
+    check(record_says(EGRYNNOL_KIND_DELIVERED, 0, 1, sizeof answer), "the record of one piece");
+    take(received.decision, &one, answer, sizeof answer);
+}
+
+/* Context 5 is not registered: refused with 8, and nothing changes. */
+static void refused(void)
+{
+    static const parameter unknown = {{0x85, 0x80, 0xC0}, 3};
+    egrynnol_received received = receive(9, &unknown);
+
+    check(received.decision.kind == EGRYNNOL_REFUSED && received.records == 0, "an unknown context is refused");
+    check(received.refusal == EGRYNNOL_REFUSAL_CONTEXT, "it is refused with 8");
+}
+
+/* The far end goes silent after its first segment. */
+static void lost_by_the_timer(const parameter *segments)
+{
+    check(receive(9, segments).decision.kind == EGRYNNOL_SAVED, "the first segment is saved");
+    check(tick(99) == 0, "at 99 nothing is lost");
+    check(tick(100) == 1, "at 100 one sequence is lost");
+    check(record_says(EGRYNNOL_KIND_LOST, EGRYNNOL_CAUSE_TIMER, 1, 15), "the record of a loss by the timer");
+}
+
+/* Two associations send the same; one hangs up, the other is not touched. */
+static void lost_by_release(const parameter *segments, unsigned count)
+{
+    check(receive(9, segments).decision.place == 0, "association 9 gets place 0");
+    check(receive(10, segments).decision.place == 1, "association 10 gets place 1");
+    check(hang_up(9) == 1, "the release of 9 loses one sequence");
+    check(record_says(EGRYNNOL_KIND_LOST, EGRYNNOL_CAUSE_RELEASE, 1, 15), "the record of a loss by release");
+    joined(10, segments, 1, count);
+    check(hang_up(10) == 0, "the release of 10 loses nothing");
+}
+
+int main(void)
+{
+    static parameter segments[EGRYNNOL_SEGMENTS];
+    unsigned count;
+
+    open_gate();
+    count = cut_message(segments);
+    check(count == 3, "the message has three segments");
+    joined(9, segments, 0, count);
+    in_one_piece();
+    refused();
+    lost_by_the_timer(segments);
+    lost_by_release(segments, count);
+    printf("all as expected\n");
+    return 0;
+}
