@@ -58,7 +58,7 @@ extern "C" {
 #define EGRYNNOL_REPORT_SEGMENT 32  /* report of egrynnol_segment: 1 record */
 #define EGRYNNOL_REPORT_SWEEP 512   /* report of egrynnol_clock and egrynnol_release: 16 records */
 
-/* egrynnol_decision.place where there is no place. */
+/* egrynnol_decision.place of a loss where no sequence was open. */
 #define EGRYNNOL_NO_PLACE 16
 
 /* ---- The registry: records of 3 octets, one after the other ----
@@ -166,14 +166,14 @@ typedef struct egrynnol_table {
 
 /* ---- Answers ---- */
 
-/* What became of a segment. A field that has no meaning for the kind is 0,
- * and place is EGRYNNOL_NO_PLACE where there is none. */
+/* What became of a segment. A field that has no meaning for the kind is 0. Lost,
+ * where no sequence of that key was open, has EGRYNNOL_NO_PLACE as its place. */
 enum egrynnol_decision_kind {
     EGRYNNOL_REFUSED = 0,             /* see the refusal number */
     EGRYNNOL_SAVED = 1,               /* saved in place */
     EGRYNNOL_DELIVERED_PARAMETER = 2, /* delivered: the part of the parameter at start, of length */
     EGRYNNOL_DELIVERED_STORE = 3,     /* delivered: the first length octets of place's stretch of the store */
-    EGRYNNOL_LOST = 4                 /* lost, for cause; place is that of the sequence, if one was open */
+    EGRYNNOL_LOST = 4                 /* lost, for cause; place of the sequence, or EGRYNNOL_NO_PLACE */
 };
 
 typedef struct egrynnol_decision {
