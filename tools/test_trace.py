@@ -216,7 +216,7 @@ class BadText(unittest.TestCase):
         ("release 65536", "release: association: '65536' is out of range, 0 to 65535"),
         ("release 1 2", "release: '2' is one word too many"),
         ("clock 1 # \0", "this is not text, it has an octet 00; for a trace in octets use decode"),
-        ("# " + "x" * 70000, "the line is longer than 65536 octets"),
+        ("# " + "x" * 70000, "the line is longer than 65535 octets"),
     ]
 
     def test_every_message_with_its_line(self):
@@ -227,6 +227,14 @@ class BadText(unittest.TestCase):
             self.assertTrue(ran.said[0].startswith("T:4: "), ran.said)
             self.assertIn(message, ran.said[0])
             self.assertEqual(ran.out, bytes([34, 0, 0, 0, 1]), "nothing from the bad line on")
+
+    def test_the_longest_line(self):
+        for end in ("", "\n", "\nclock 2\n"):
+            line = "clock 1 #" + "x" * 65526
+            self.assertEqual(len(line), 65535)
+            self.assertTrue(encode(line + end).good)
+            self.assertEqual(encode(line + "x" + end).said, ["T:1: the line is longer than 65535 octets"])
+            self.assertEqual(encode("\ufeff" + line + end).said, ["T:1: the line is longer than 65535 octets"])
 
     def test_bad_bytes(self):
         self.assertEqual(encode(b"\xff\xfe").said, ["T:1: unknown word '\\xff\\xfe'; "
