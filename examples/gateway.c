@@ -5,7 +5,7 @@
  * sequence by the timer and another by a release. It prints each step, checks
  * each answer, and ends with status 1 at the first that is not as expected.
  *
- *   cc -std=c99 -Iinclude examples/gateway.c LIBRARY -o gateway && ./gateway
+ *   cc -std=c99 -Iinclude examples/gateway.c target/staticlib/libhost.a -o target/gateway && target/gateway
  */
 #include <stdio.h>
 #include <stdlib.h>

@@ -322,6 +322,10 @@ class Explained(unittest.TestCase):
             "originating address: 2 octets: 00 07", "destination address: 0 octets", "information: 1 octet"])
         self.assertEqual(told("84 80 41 85 01 07 00 BB")[4:], [
             "originating address: 1 octet: 07", "destination address: 0 octets", "information: 1 octet"])
+        self.assertEqual(told("84 80 C0 00 00")[4:], [
+            "originating address: 0 octets", "destination address: 0 octets", "information: 0 octets"])
+        self.assertEqual(told("84 80 C0 00 01 07")[4:], [
+            "originating address: 0 octets", "destination address: 1 octet: 07", "information: 0 octets"])
         self.assertEqual(told("03 80 80 C0 AA"), [
             "context 3, written in two octets: registered as a context of 1998, no address fields",
             self.NONE, "new segment, 0 segments remaining", "unsegmented: no reference", "information: 1 octet"])
@@ -339,7 +343,7 @@ class Explained(unittest.TestCase):
         ("83 80 40", 5, 4), ("83 80 40 05", 6, 4), ("84 80 40 85 15", 7, 3), ("84 80 C1", 7, 3), ("83 80 80", 7, 3),
         ("05", 5, 2), ("05 05", 6, 2), ("05 80", 8, 2), ("80 80 C0", 8, 1), ("00 80 80 C0", 8, 2),
         # where the fields end, and long addresses
-        ("83", 5, 2), ("83 80", 5, 3), ("84 80 C0", 5, 4), ("84 80 C0 15", 9, 4), ("84 80 C0 FF 01", 9, 4),
+        ("83", 5, 2), ("83 7F", 6, 2), ("83 80", 5, 3), ("84 80 C0", 5, 4), ("84 80 C0 15", 9, 4), ("84 80 C0 FF 01", 9, 4),
         ("84 80 C0 02 01", 5, 6), ("84 80 C0 14", 5, 5), ("84 80 C0 00", 5, 5), ("84 80 C0 00 15", 9, 5),
         ("84 80 C0 01 07 02 01", 5, 8), ("84 80 41 85 02 00 07 15", 9, 8), ("84 80 41 05 15", 6, 4),
     ]
@@ -372,7 +376,9 @@ class Explained(unittest.TestCase):
         self.assertEqual(told("83 80 C0", "open 100 0\n")[0], "context 3: not registered so far in this trace")
         self.assertEqual(told("7F FF", "context 1998 16383\n")[0],
                          "context 16383: registered as a context of 1998, no address fields")
-        self.assertEqual(told("80", "context 1998 0\n")[0], "context 0: never registered")
+        zero = told("80 80 C0", "context 1998 0\n")
+        self.assertEqual(zero[0], "context 0: never registered")
+        self.assertTrue(zero[1].startswith("refused 8 at position 1: "))
         both = told("83 80 C0 02 01 02", "context 1998 3\ncontext 2000 3\n")
         self.assertEqual(both[0], "context 3: listed as 1998 and as 2000, so an open is refused with 11")
         self.assertEqual(both[-1], "3 octets left: address fields or not, the registry says both")
@@ -445,6 +451,7 @@ class NoInformation(unittest.TestCase):
         text = explain_text(REGISTRY + "segment 9 83 80 C0 | 5A 5A\n")
         self.assertNotIn("5A", text)
         self.assertIn("octets past the length are not all zero; they do not count", text)
+        self.assertNotIn("past the length", explain_text("segment 9 83 80 C0 | 00 00\n"))
 
 
 class CommandLine(unittest.TestCase):
