@@ -1,0 +1,21 @@
+//! Says where libhost.a is: the directory in EGRYNNOL_LIB, or ../target/staticlib beside this crate.
+
+use std::env;
+use std::path::{Path, PathBuf};
+
+fn main() {
+    println!("cargo:rerun-if-changed=build.rs");
+    println!("cargo:rerun-if-env-changed=EGRYNNOL_LIB");
+    if env::var_os("CARGO_FEATURE_LIBRARY").is_none() {
+        return;
+    }
+    let home = env::var_os("CARGO_MANIFEST_DIR").expect("cargo sets CARGO_MANIFEST_DIR");
+    let home = Path::new(&home);
+    let chosen = env::var_os("EGRYNNOL_LIB").unwrap_or_else(|| "../target/staticlib".into());
+    let directory: PathBuf = home.join(chosen);
+    println!("cargo:rustc-link-search=native={}", directory.display());
+    let archive = directory.join("libhost.a");
+    if archive.exists() {
+        println!("cargo:rerun-if-changed={}", archive.display());
+    }
+}

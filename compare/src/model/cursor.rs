@@ -1,0 +1,62 @@
+//! Reading octets from left to right.
+
+use crate::{Refusal, ADDRESS};
+
+const EXTENSION: u8 = 0x80;
+
+#[derive(Clone, Copy)]
+pub struct Cursor<'a> {
+    rest: &'a [u8],
+}
+
+impl<'a> Cursor<'a> {
+    pub fn new(octets: &'a [u8]) -> Self {
+        Cursor { rest: octets }
+    }
+
+    /// What has not been read yet.
+    pub fn rest(&self) -> &'a [u8] {
+        self.rest
+    }
+
+    pub fn octet(&mut self) -> Option<u8> {
+        let (first, rest) = self.rest.split_first()?;
+        self.rest = rest;
+        Some(*first)
+    }
+
+    pub fn take(&mut self, length: usize) -> Option<&'a [u8]> {
+        let (taken, rest) = self.rest.split_at_checked(length)?;
+        self.rest = rest;
+        Some(taken)
+    }
+
+    /// A number of N octets, as they stand.
+    pub fn array<const N: usize>(&mut self) -> Option<[u8; N]> {
+        let (taken, rest) = self.rest.split_first_chunk()?;
+        self.rest = rest;
+        Some(*taken)
+    }
+
+    /// The low seven bits of an octet that may have another after it: none if this is the last.
+    pub fn extended(&mut self) -> Result<(u8, Option<()>), Refusal> {
+        let octet = self.octet().ok_or(Refusal::Cut)?;
+        let more = (octet & EXTENSION == 0).then_some(());
+        Ok((octet & !EXTENSION, more))
+    }
+
+    /// The low seven bits of an octet that has to be the last of its field.
+    pub fn last(&mut self) -> Result<u8, Refusal> {
+        match self.extended()? {
+            (bits, None) => Ok(bits),
+            (_, Some(())) => Err(Refusal::Extension),
+        }
+    }
+
+    /// An address with its length octet. The length is judged before its octets are looked for.
+    pub fn address(&mut self) -> Result<&'a [u8], Refusal> {
+        let length = usize::from(self.octet().ok_or(Refusal::Cut)?);
+        Refusal::LongAddress.unless(length <= ADDRESS)?;
+        self.take(length).ok_or(Refusal::Cut)
+    }
+}

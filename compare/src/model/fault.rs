@@ -1,0 +1,64 @@
+//! The ways in which the model can be made wrong on purpose.
+
+macro_rules! faults {
+    ($($fault:ident $name:literal $what:literal)*) => {
+        #[derive(Clone, Copy, Debug, PartialEq, Eq)]
+        pub enum Fault { $($fault),* }
+
+        impl Fault {
+            pub const ALL: &'static [Fault] = &[$(Fault::$fault),*];
+
+            /// The name on the command line.
+            pub fn name(self) -> &'static str {
+                match self { $(Fault::$fault => $name),* }
+            }
+
+            pub fn what(self) -> &'static str {
+                match self { $(Fault::$fault => $what),* }
+            }
+        }
+    };
+}
+
+faults! {
+    // Document 01, "Errors we have met in bought software".
+    AddressNumber "address-as-number" "addresses are compared as numbers"
+    AddressNoLength "address-without-length" "addresses are compared over their zero-filled octets alone"
+    RestartDropsNew "restart-drops-new" "a restart throws away the new first segment too"
+    LossForgetsBreaker "loss-forgets-breaker" "a loss record leaves out the breaking segment"
+    LossBreakerInstruction "loss-breaker-instruction" "a loss record has the breaking segment's instruction"
+    TimerRestarted "timer-restarted" "each segment starts the timer anew"
+    AgePlain "age-plain-subtraction" "an age is taken by plain subtraction"
+    // Of our own.
+    RestartBeforeRemaining "line-2-before-1" "line 2 is tried before line 1"
+    RemainingAtMost "remaining-at-most" "line 5 lets segments be missed"
+    LongByOne "2049-delivered" "line 6 lets 2,049 octets pass"
+    FullRefusesRestart "full-refuses-restart" "a full table refuses line 2 too"
+    HighestFree "highest-free-place" "line 3 takes the highest free place"
+    FreeMarkOnly "free-clears-mark-only" "a freed place keeps its other fields"
+    StoreAtStart "store-at-place-start" "each segment is written at the place's start"
+    LastNotStored "last-not-stored" "the final segment is not written to the store"
+    RecordLittleEndian "record-little-endian" "a record's octets go least significant octet first"
+    RefusedReport "refused-call-writes" "a refused call writes the report area"
+    Octet3aEarly "7-before-5" "7 is found before 3a is read"
+    AddressLate "9-after-the-address" "9 is found after the address's octets"
+    SpareRead "spare-bits-read" "octet 2's spare bits count as instruction"
+    OriginForgotten "1998-as-2000" "a context of 1998 is read with address fields"
+    TwiceByKind "twice-by-kind" "contexts of different kinds are never the same"
+    ZeroFill "zero-fill-unchecked" "the octets after an address are not looked at"
+    MarkAny "any-mark-is-open" "any mark but 0 counts as open"
+    SumWraps "segments-sum-wraps" "segments plus remaining is taken modulo 256"
+    ClockHalf "half-step-accepted" "a clock step of 2^31 is accepted"
+    TimerLate "timer-late" "a sequence of age T is kept"
+    ReleaseAll "release-all" "a release ends the sequences of every association"
+    DeliveryPastPlace "delivery-past-place" "a part may reach past its place's stretch"
+    RefusedOpening "refused-opening-keeps-clock" "a refused opening answers with T and clock"
+    RegistryFirst "11-before-12" "opening looks at the registry first"
+    CountOneMore "count-one-more" "sending's count is one more than the least where all is full"
+    RoomUnused "unused-room-unchecked" "an R over 255 passes where it is not used"
+    ReferenceFirst "16-before-17" "sending looks at the reference before the instruction"
+    ContextLong "context-in-two-octets" "a context is always written in two octets"
+    RegistryAfterOpen "registry-after-open" "replay takes registry records after the first open"
+    FirstRecordOnly "first-record-only" "replay counts the octets of a call's first record alone"
+    CutSilent "cut-without-stop" "replay ends at a cut record without a stop"
+}

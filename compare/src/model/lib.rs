@@ -1,0 +1,50 @@
+//! The model: a second implementation of document 01 (01-scope.md), against which the proved
+//! library is compared call by call.
+//!
+//! Independence. It was written from document 01 and the team's readings of it (readings.md)
+//! alone. Whoever wrote it did not read the library's rules, its code or its decisions; only the
+//! shapes of the calls (`shapes`) are shared.
+//!
+//! Style. Bits are first read into small types in which only what is good can be written: a
+//! `Cursor` and `?` for the octets, `Position` for octets 3 and 3a, `Line` for the receiving
+//! rules. A call first works out its whole effect as a value and writes only then, so a refusal,
+//! which is an `Err`, cannot have written anything.
+//!
+//! `Faults` are there to show that the comparison can fail; `Model::default()` has none.
+
+mod cursor;
+mod delivery;
+mod fault;
+mod opening;
+mod receiving;
+mod record;
+mod refusal;
+mod segment;
+mod sending;
+mod shapes;
+mod sound;
+mod sweep;
+#[cfg(test)]
+mod tests;
+mod trace;
+
+pub use fault::Fault;
+pub use refusal::Refusal;
+pub use shapes::*;
+
+/// The calls of document 01 are its methods.
+#[derive(Clone, Copy, Debug, Default)]
+pub struct Model {
+    fault: Option<Fault>,
+}
+
+impl Model {
+    /// A model that is wrong in one way.
+    pub fn with(fault: Fault) -> Model {
+        Model { fault: Some(fault) }
+    }
+
+    fn broken(&self, fault: Fault) -> bool {
+        self.fault == Some(fault)
+    }
+}

@@ -1,0 +1,39 @@
+//! Opening: a registry's octets into a table with no open place.
+
+use crate::{Entry, Fault, Model, Opened, Refusal, Table, CONTEXTS, ENTRIES, TIMERS};
+
+impl Model {
+    pub fn opening(&self, registry: &[u8], timer: u32, clock: u32) -> Opened {
+        let first = match self.fault {
+            Some(Fault::RegistryFirst) => self.registry(registry).map(|_| ()),
+            _ => Ok(()),
+        };
+        let opened = first
+            .and_then(|()| Refusal::Timer.unless(TIMERS.contains(&timer)))
+            .and_then(|()| self.registry(registry))
+            .map(|registry| Table { registry, timer, clock, ..Table::default() });
+        match opened {
+            Ok(table) => Opened { table, refusal: 0 },
+            Err(refusal) if self.broken(Fault::RefusedOpening) => Opened {
+                table: Table { timer, clock, ..Table::default() },
+                refusal: refusal.number(),
+            },
+            Err(refusal) => Opened { table: Table::default(), refusal: refusal.number() },
+        }
+    }
+
+    /// The entries in the order of the list.
+    fn registry(&self, octets: &[u8]) -> Result<[Entry; ENTRIES], Refusal> {
+        let records = octets.chunks(3);
+        Refusal::Registry.unless(records.len() <= ENTRIES)?;
+        let mut entries = [Entry::default(); ENTRIES];
+        for (i, record) in records.enumerate() {
+            let &[kind @ (1 | 2), high, low] = record else { return Err(Refusal::Registry) };
+            let entry = Entry { kind, context: u16::from_be_bytes([high, low]) };
+            let good = CONTEXTS.contains(&entry.context) && !self.listed(&entries[..i], &entry);
+            Refusal::Registry.unless(good)?;
+            entries[i] = entry;
+        }
+        Ok(entries)
+    }
+}

@@ -1,0 +1,279 @@
+//! Receiving a segment: the lines of document 01, what each does, and then doing it.
+
+use crate::record::{Covered, Record};
+use crate::segment::{Position, Segment};
+use crate::sound::OPEN;
+use crate::{Decision, Fault, Model, Place, Received, Refusal, Table};
+use crate::{PARAMETER, PLACES, RECORD, STORE, STRETCH};
+
+/// The receiving line that applies, with the place it concerns.
+#[derive(Clone, Copy, Debug)]
+enum Line {
+    Unsegmented,
+    /// Line 1, with the open sequence of the key.
+    TooMany(Option<usize>),
+    /// Line 2.
+    Restart(usize),
+    /// Line 3.
+    Begin(usize),
+    /// Line 4.
+    Orphan,
+    /// Line 5.
+    OutOfTurn(usize),
+    /// Line 6.
+    TooLong(usize),
+    /// Line 7 with none remaining.
+    Finish(usize),
+    /// Line 7 with more to come.
+    Continue(usize),
+}
+
+/// Everything an accepted segment changes.
+struct Effect {
+    decision: Decision,
+    record: Option<Record>,
+    place: Option<(usize, Place)>,
+    /// Where in the store the information goes.
+    write: Option<usize>,
+}
+
+impl Model {
+    pub fn segment(
+        &self,
+        table: Table,
+        store: &mut [u8],
+        report: &mut [u8],
+        association: u16,
+        parameter: &[u8],
+    ) -> Received {
+        let judged = self.judge(&table, store.len(), report.len(), association, parameter);
+        let (segment, line) = match judged {
+            Ok(judged) => judged,
+            Err(refusal) => {
+                if let (true, Some(octet)) = (self.broken(Fault::RefusedReport), report.first_mut())
+                {
+                    *octet = refusal.number();
+                }
+                return Received { table, refusal: refusal.number(), ..Received::default() };
+            }
+        };
+        let effect = self.effect(&table, &segment, line, parameter.len());
+        let mut received = Received { table, decision: effect.decision, ..Received::default() };
+        if let Some((index, place)) = effect.place {
+            received.table.places[index] = place;
+        }
+        if let Some(start) = effect.write {
+            store[start..][..segment.information.len()].copy_from_slice(segment.information);
+        }
+        if let Some(record) = effect.record {
+            report[..RECORD].copy_from_slice(&self.octets(&record));
+            received.records = 1;
+        }
+        received
+    }
+
+    /// All the refusals, and the line.
+    fn judge<'a>(
+        &self,
+        table: &Table,
+        store: usize,
+        report: usize,
+        association: u16,
+        parameter: &'a [u8],
+    ) -> Result<(Segment<'a>, Line), Refusal> {
+        self.sound(table)?;
+        Refusal::ShortStore.unless(store >= STORE)?;
+        Refusal::ShortReport.unless(report >= RECORD)?;
+        Refusal::LongParameter.unless(parameter.len() <= PARAMETER)?;
+        let segment = self.read(table, association, parameter)?;
+        let line = self.line(table, &segment)?;
+        Ok((segment, line))
+    }
+
+    fn line(&self, table: &Table, segment: &Segment) -> Result<Line, Refusal> {
+        let open = table
+            .places
+            .iter()
+            .position(|place| place.is_open() && self.same(&place.key, &segment.key));
+        let restart_first = self.broken(Fault::RestartBeforeRemaining);
+        match (segment.position, open) {
+            (Position::Alone, _) => Ok(Line::Unsegmented),
+            (Position::First(_), Some(index)) if restart_first => Ok(Line::Restart(index)),
+            (Position::First(remaining) | Position::Later(remaining), _) if remaining > 9 => {
+                Ok(Line::TooMany(open))
+            }
+            (Position::First(_), Some(_))
+                if self.broken(Fault::FullRefusesRestart) && self.free(table).is_none() =>
+            {
+                Err(Refusal::Full)
+            }
+            (Position::First(_), Some(index)) => Ok(Line::Restart(index)),
+            (Position::First(_), None) => self.free(table).map(Line::Begin).ok_or(Refusal::Full),
+            (Position::Later(_), None) => Ok(Line::Orphan),
+            (Position::Later(remaining), Some(index)) => Ok(self.later_line(
+                &table.places[index],
+                index,
+                remaining,
+                segment.information.len(),
+            )),
+        }
+    }
+
+    /// Lines 5 to 7. Remaining is at most 9 here.
+    fn later_line(&self, place: &Place, index: usize, remaining: u8, length: usize) -> Line {
+        let most = if self.broken(Fault::LongByOne) { STRETCH + 1 } else { STRETCH };
+        let in_turn = match self.fault {
+            Some(Fault::RemainingAtMost) => remaining < place.remaining,
+            _ => remaining + 1 == place.remaining,
+        };
+        if !in_turn {
+            Line::OutOfTurn(index)
+        } else if usize::from(place.octets) + length > most {
+            Line::TooLong(index)
+        } else if remaining == 0 {
+            Line::Finish(index)
+        } else {
+            Line::Continue(index)
+        }
+    }
+
+    fn free(&self, table: &Table) -> Option<usize> {
+        let mut places = table.places.iter();
+        match self.fault {
+            Some(Fault::HighestFree) => places.rposition(|place| !place.is_open()),
+            _ => places.position(|place| !place.is_open()),
+        }
+    }
+
+    fn effect(&self, table: &Table, segment: &Segment, line: Line, length: usize) -> Effect {
+        let this = Covered::this(segment);
+        match line {
+            Line::Unsegmented => {
+                let length_of_it = segment.information.len();
+                let decision = Decision {
+                    kind: 2,
+                    start: length - length_of_it,
+                    length: length_of_it,
+                    ..Decision::default()
+                };
+                Effect {
+                    decision,
+                    record: Some(Record { cause: 0, covered: this }),
+                    place: None,
+                    write: None,
+                }
+            }
+            Line::TooMany(None) => lost(4, None, this, None),
+            Line::Orphan => lost(1, None, this, None),
+            Line::TooMany(Some(index)) => self.broken_off(4, table, index, segment),
+            Line::OutOfTurn(index) => self.broken_off(2, table, index, segment),
+            Line::TooLong(index) => self.broken_off(5, table, index, segment),
+            Line::Restart(index) => {
+                let saved = Covered::saved(&table.places[index]);
+                let first = if self.broken(Fault::RestartDropsNew) {
+                    Place::default()
+                } else {
+                    first(table, segment)
+                };
+                Effect { write: Some(index * STRETCH), ..lost(3, Some(index), saved, Some(first)) }
+            }
+            Line::Begin(index) => saved(index, first(table, segment), index * STRETCH),
+            Line::Continue(index) => {
+                let place = self.longer(table, &table.places[index], segment);
+                saved(index, place, self.end(table, index))
+            }
+            Line::Finish(index) => self.finish(table, index, segment),
+        }
+    }
+
+    /// A loss that covers what was saved and this segment, and frees the place.
+    fn broken_off(&self, cause: u8, table: &Table, index: usize, segment: &Segment) -> Effect {
+        let place = &table.places[index];
+        let mut covered = Covered::saved(place).and(segment);
+        if self.broken(Fault::LossForgetsBreaker) {
+            covered = Covered::saved(place);
+        }
+        if self.broken(Fault::LossBreakerInstruction) {
+            covered.instruction = segment.instruction;
+        }
+        lost(cause, Some(index), covered, Some(self.freed(place)))
+    }
+
+    fn finish(&self, table: &Table, index: usize, segment: &Segment) -> Effect {
+        let place = &table.places[index];
+        let covered = Covered::saved(place).and(segment);
+        let decision = Decision {
+            kind: 3,
+            place: index,
+            length: covered.octets.into(),
+            ..Decision::default()
+        };
+        let write = (!self.broken(Fault::LastNotStored)).then(|| self.end(table, index));
+        Effect {
+            decision,
+            record: Some(Record { cause: 0, covered }),
+            place: Some((index, self.freed(place))),
+            write,
+        }
+    }
+
+    /// The place with this segment saved after the others.
+    fn longer(&self, table: &Table, place: &Place, segment: &Segment) -> Place {
+        let start = if self.broken(Fault::TimerRestarted) { table.clock } else { place.start };
+        Place {
+            octets: place.octets + segment.information.len() as u16,
+            segments: place.segments + 1,
+            remaining: place.remaining - 1,
+            start,
+            ..*place
+        }
+    }
+
+    /// Where in the store the next segment of an open place goes.
+    fn end(&self, table: &Table, index: usize) -> usize {
+        match self.fault {
+            Some(Fault::StoreAtStart) => index * STRETCH,
+            _ => index * STRETCH + usize::from(table.places[index].octets),
+        }
+    }
+
+    pub(crate) fn freed(&self, place: &Place) -> Place {
+        match self.fault {
+            Some(Fault::FreeMarkOnly) => Place { mark: 0, ..*place },
+            _ => Place::default(),
+        }
+    }
+}
+
+fn saved(index: usize, place: Place, write: usize) -> Effect {
+    let decision = Decision { kind: 1, place: index, ..Decision::default() };
+    Effect { decision, record: None, place: Some((index, place)), write: Some(write) }
+}
+
+fn lost(cause: u8, index: Option<usize>, covered: Covered, after: Option<Place>) -> Effect {
+    let decision =
+        Decision { kind: 4, cause, place: index.unwrap_or(PLACES), ..Decision::default() };
+    Effect {
+        decision,
+        record: Some(Record { cause, covered }),
+        place: index.zip(after),
+        write: None,
+    }
+}
+
+/// A place that this segment begins: the table's time is its start.
+fn first(table: &Table, segment: &Segment) -> Place {
+    let remaining = match segment.position {
+        Position::Alone => 0,
+        Position::First(remaining) | Position::Later(remaining) => remaining,
+    };
+    Place {
+        key: segment.key,
+        octets: segment.information.len() as u16,
+        start: table.clock,
+        mark: OPEN,
+        instruction: segment.instruction,
+        remaining,
+        segments: 1,
+    }
+}

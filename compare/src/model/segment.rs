@@ -1,0 +1,105 @@
+//! A parameter read into its fields.
+
+use crate::cursor::Cursor;
+use crate::{Fault, Key, Model, Refusal, Table, ADDRESS, UNSEGMENTED};
+
+/// Which edition's layout a registered context has.
+#[derive(Clone, Copy, Debug, PartialEq, Eq)]
+pub enum Edition {
+    Of1998,
+    Of2000,
+}
+
+/// Where a segment stands in its sequence and how many follow it.
+#[derive(Clone, Copy, Debug, PartialEq, Eq)]
+pub enum Position {
+    /// Unsegmented.
+    Alone,
+    First(u8),
+    Later(u8),
+}
+
+#[derive(Clone, Copy, Debug)]
+pub struct Segment<'a> {
+    /// The reference is 255 where the segment is alone.
+    pub key: Key,
+    pub instruction: u8,
+    pub position: Position,
+    pub information: &'a [u8],
+}
+
+impl Table {
+    /// The edition of a registered context. Zero is what unused entries have, so never one.
+    pub fn edition(&self, context: u16) -> Option<Edition> {
+        let entry =
+            self.registry.iter().find(|entry| entry.kind != 0 && entry.context == context)?;
+        match entry.kind {
+            1 => Some(Edition::Of1998),
+            _ => Some(Edition::Of2000),
+        }
+    }
+}
+
+impl Model {
+    /// Refusals 5 to 9, in the order in which the octets show them.
+    pub(crate) fn read<'a>(
+        &self,
+        table: &Table,
+        association: u16,
+        parameter: &'a [u8],
+    ) -> Result<Segment<'a>, Refusal> {
+        let mut cursor = Cursor::new(parameter);
+        let context = context(&mut cursor)?;
+        let mut edition = table.edition(context).ok_or(Refusal::Unregistered)?;
+        if self.broken(Fault::OriginForgotten) {
+            edition = Edition::Of2000;
+        }
+        let spare = if self.broken(Fault::SpareRead) { 0x7f } else { 0b11 };
+        let instruction = cursor.last()? & spare;
+        let (position, reference) = self.position(&mut cursor)?;
+        let mut origin: &[u8] = &[];
+        if edition == Edition::Of2000 {
+            origin = self.address(&mut cursor)?;
+            self.address(&mut cursor)?;
+        }
+        let key = key(association, context, reference, origin);
+        Ok(Segment { key, instruction, position, information: cursor.rest() })
+    }
+
+    /// Octet 3, and 3a if it is there, with the reference.
+    fn position(&self, cursor: &mut Cursor) -> Result<(Position, u8), Refusal> {
+        let (bits, more) = cursor.extended()?;
+        let (new, remaining) = (bits & 0x40 != 0, bits & 0x3f);
+        if self.broken(Fault::Octet3aEarly) {
+            Refusal::Octet3a.unless(more.is_none() == (new && remaining == 0))?;
+        }
+        let reference = more.map(|()| cursor.last()).transpose()?;
+        match (new, remaining, reference) {
+            (true, 0, None) => Ok((Position::Alone, UNSEGMENTED)),
+            (true, 0, Some(_)) | (_, _, None) => Err(Refusal::Octet3a),
+            (true, _, Some(reference)) => Ok((Position::First(remaining), reference)),
+            (false, _, Some(reference)) => Ok((Position::Later(remaining), reference)),
+        }
+    }
+
+    fn address<'a>(&self, cursor: &mut Cursor<'a>) -> Result<&'a [u8], Refusal> {
+        if self.broken(Fault::AddressLate) {
+            let length = cursor.rest().first().map_or(0, |length| usize::from(*length));
+            Refusal::Cut.unless(length < cursor.rest().len())?;
+        }
+        cursor.address()
+    }
+}
+
+/// Low seven bits, then the high seven if the first octet is not the last.
+fn context(cursor: &mut Cursor) -> Result<u16, Refusal> {
+    let (low, more) = cursor.extended()?;
+    let high = more.map_or(Ok(0), |()| cursor.last())?;
+    Ok(u16::from(high) << 7 | u16::from(low))
+}
+
+fn key(association: u16, context: u16, reference: u8, origin: &[u8]) -> Key {
+    let mut address = [0; ADDRESS];
+    address[..origin.len()].copy_from_slice(origin);
+    Key { address, association, context, reference, length: origin.len() as u8 }
+}

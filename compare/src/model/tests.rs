@@ -1,0 +1,285 @@
+//! Document 01's worked examples.
+
+use crate::*;
+
+const REGISTRY: [u8; 6] = [1, 0, 3, 2, 0, 4];
+const MODEL: Model = Model { fault: None };
+
+/// A host: a table with its lent areas, and what the last call answered.
+struct Host {
+    table: Table,
+    store: Vec<u8>,
+    report: Vec<u8>,
+}
+
+impl Host {
+    fn open(clock: u32) -> Host {
+        let opened = MODEL.opening(&REGISTRY, 100, clock);
+        assert_eq!(opened.refusal, 0);
+        Host { table: opened.table, store: vec![0xEE; STORE], report: vec![0xEE; SWEEP] }
+    }
+
+    fn segment(&mut self, parameter: &[u8]) -> Received {
+        let (store, report) = (&mut self.store, &mut self.report);
+        let received = MODEL.segment(self.table, store, report, 9, parameter);
+        self.table = received.table;
+        received
+    }
+
+    fn clock(&mut self, time: u32) -> Swept {
+        let swept = MODEL.clock(self.table, &mut self.report, time);
+        self.table = swept.table;
+        swept
+    }
+
+    fn data(&self, received: &Received, parameter: &[u8]) -> Vec<u8> {
+        let part = MODEL.delivery(received.decision, parameter, &self.store);
+        let from = if part.source == 0 { parameter } else { &self.store };
+        from[part.start..][..part.length].to_vec()
+    }
+
+    fn open_places(&self) -> usize {
+        self.table.places.iter().filter(|place| place.is_open()).count()
+    }
+}
+
+/// A record's octets without the trailing zeros of its address.
+fn record(kind: u8, context: u8, fields: [u8; 4], octets: u16, origin: &[u8]) -> Vec<u8> {
+    let [high, low] = octets.to_be_bytes();
+    let mut record = vec![kind, 0, 9, 0, context];
+    record.extend(fields);
+    record.extend([high, low, origin.len() as u8]);
+    record.extend(origin);
+    record.resize(RECORD, 0);
+    record
+}
+
+/// The refusal of one parameter from a fresh opening.
+fn refusal(parameter: &[u8]) -> u8 {
+    let mut host = Host::open(0);
+    let table = host.table;
+    let received = host.segment(parameter);
+    assert_eq!(received.table, table);
+    assert_eq!((received.records, received.decision), (0, Decision::default()));
+    assert!(host.store.iter().chain(&host.report).all(|octet| *octet == 0xEE));
+    received.refusal
+}
+
+/// The cause of a loss: decision and record have to agree.
+fn cause(host: &Host, received: &Received) -> u8 {
+    assert_eq!((received.refusal, received.records, received.decision.kind), (0, 1, 4));
+    assert_eq!((host.report[0], host.report[7]), (17, received.decision.cause));
+    received.decision.cause
+}
+
+#[test]
+fn m1_and_m7_to_m10_refusals() {
+    assert_eq!(refusal(&[]), 5);
+    assert_eq!(refusal(&[0x83, 0x80, 0x40, 0x85]), 7);
+    assert_eq!(refusal(&[0x83, 0x80, 0xC1]), 7);
+    assert_eq!(refusal(&[0x83, 0x00]), 6);
+    assert_eq!(refusal(&[0x85]), 8);
+}
+
+#[test]
+fn m2_and_m12_unsegmented() {
+    for parameter in [&[0x83, 0x80, 0xC0, 0xAA, 0xBB][..], &[0x03, 0x80, 0x80, 0xC0, 0xAA]] {
+        let mut host = Host::open(0);
+        let received = host.segment(parameter);
+        let data = host.data(&received, parameter);
+        assert_eq!(data, parameter[parameter.len() - data.len()..]);
+        let length = data.len() as u16;
+        assert_eq!(length, if parameter[0] == 0x83 { 2 } else { 1 });
+        assert_eq!(host.report[..RECORD], record(16, 3, [255, 0, 0, 1], length, &[]));
+        assert_eq!(host.open_places(), 0);
+        assert!(host.store.iter().all(|octet| *octet == 0xEE));
+    }
+}
+
+#[test]
+fn m3_joined() {
+    let mut host = Host::open(0);
+    let first = host.segment(&[0x83, 0x81, 0x41, 0x85, 0xAA]);
+    assert_eq!((first.refusal, first.records, first.decision.kind), (0, 0, 1));
+    let second = host.segment(&[0x83, 0x80, 0x00, 0x85, 0xBB]);
+    assert_eq!(second.decision.kind, 3);
+    assert_eq!(host.data(&second, &[]), [0xAA, 0xBB]);
+    assert_eq!(host.report[..RECORD], record(16, 3, [5, 1, 0, 2], 2, &[]));
+    assert!(host.report[RECORD..].iter().chain(&host.store[2..]).all(|octet| *octet == 0xEE));
+    assert_eq!(host.table, Host::open(0).table);
+}
+
+#[test]
+fn m4_orphan() {
+    let mut host = Host::open(0);
+    let received = host.segment(&[0x83, 0x80, 0x00, 0x85, 0xBB]);
+    assert_eq!(cause(&host, &received), 1);
+    assert_eq!(received.decision.place, PLACES);
+    assert_eq!(host.report[..RECORD], record(17, 3, [5, 0, 1, 1], 1, &[]));
+}
+
+#[test]
+fn m5_and_m6_remaining() {
+    let mut host = Host::open(0);
+    assert_eq!(host.segment(&[0x83, 0x80, 0x49, 0x85]).decision.kind, 1);
+    assert_eq!(host.open_places(), 1);
+    let mut host = Host::open(0);
+    let received = host.segment(&[0x83, 0x80, 0x4A, 0x85]);
+    assert_eq!(cause(&host, &received), 4);
+}
+
+#[test]
+fn m11_addresses() {
+    let mut host = Host::open(0);
+    host.segment(&[0x84, 0x80, 0x41, 0x85, 0x02, 0x00, 0x07, 0x00, 0xAA]);
+    host.segment(&[0x84, 0x80, 0x41, 0x85, 0x01, 0x07, 0x00, 0xBB]);
+    assert_eq!(host.open_places(), 2);
+}
+
+#[test]
+fn clock_and_timer() {
+    let mut host = Host::open(0);
+    host.segment(&[0x83, 0x80, 0x41, 0x85, 0xAA]);
+    assert_eq!(host.clock(99).records, 0);
+    assert_eq!(host.open_places(), 1);
+    assert_eq!(host.clock(100).records, 1);
+    assert_eq!(host.report[..RECORD], record(17, 3, [5, 0, 6, 1], 1, &[]));
+    let mut host = Host::open(4_294_967_290);
+    host.segment(&[0x83, 0x80, 0x41, 0x85, 0xAA]);
+    assert_eq!((host.clock(5).refusal, host.open_places()), (0, 1));
+    assert_eq!((host.clock(4).refusal, host.table.clock), (13, 5));
+}
+
+#[test]
+fn joined_2048_and_2049() {
+    for (last, expected) in [(248, 0), (249, 5)] {
+        let mut host = Host::open(0);
+        for k in (1..10).rev() {
+            let mut parameter = vec![0x83, 0x80, if k == 9 { 0x49 } else { k }, 0x85];
+            parameter.resize(4 + 200, k);
+            assert_eq!(host.segment(&parameter).decision.kind, 1);
+        }
+        let mut parameter = vec![0x83, 0x80, 0x00, 0x85];
+        parameter.resize(4 + last, 0);
+        let received = host.segment(&parameter);
+        assert_eq!(received.decision.cause, expected);
+        assert_eq!(
+            host.report[..RECORD],
+            record(
+                if expected == 0 { 16 } else { 17 },
+                3,
+                [5, 0, expected, 10],
+                1_800 + last as u16,
+                &[]
+            )
+        );
+        assert_eq!(host.open_places(), 0);
+        if expected == 0 {
+            assert_eq!(host.data(&received, &[]).len(), 2_048);
+        }
+    }
+}
+
+/// One segment of context 3's data, or the refusal.
+fn send(n: usize, rooms: [usize; 2], number: usize) -> Result<(u8, Vec<u8>), u8> {
+    let table = Host::open(0).table;
+    let [room1, room] = rooms;
+    let request = Request { context: 3, instruction: 0, reference: 5, room1, room, number };
+    let mut area = [0xEE; 300];
+    let sent = MODEL.sending(table, request, &[], &[], &vec![0xDD; n], &mut area);
+    let (segment, rest) = area.split_at(sent.length.into());
+    assert!(rest.iter().all(|octet| *octet == 0xEE));
+    if sent.refusal == 0 {
+        Ok((sent.count, segment.to_vec()))
+    } else {
+        Err(sent.refusal)
+    }
+}
+
+#[test]
+fn m13_sending() {
+    assert_eq!(send(5, [8, 8], 0), Ok((1, vec![0x83, 0x80, 0xC0, 0xDD, 0xDD, 0xDD, 0xDD, 0xDD])));
+    assert_eq!(send(5, [7, 7], 0), Ok((2, vec![0x83, 0x80, 0x41, 0x85, 0xDD, 0xDD, 0xDD])));
+    assert_eq!(send(5, [7, 7], 1), Ok((2, vec![0x83, 0x80, 0x00, 0x85, 0xDD, 0xDD])));
+    assert_eq!(send(5, [7, 7], 2), Err(19));
+    assert_eq!(
+        send(2_048, [209, 209], 9).map(|sent| (sent.0, sent.1.len())),
+        Ok((10, 4 + 2_048 - 9 * 205))
+    );
+    assert_eq!(send(2_048, [208, 208], 0), Err(18));
+}
+
+/// A trace's segment record of association 9.
+fn event(parameter: &[u8]) -> Vec<u8> {
+    let mut record = vec![33, 0, 9, parameter.len() as u8];
+    record.extend(parameter);
+    record.resize(1 + 2 + 1 + 255, 0xEE);
+    record
+}
+
+const OPEN: [u8; 9] = [32, 0, 0, 0, 100, 0, 0, 0, 0];
+
+#[test]
+fn replay_example() {
+    let trace = [
+        vec![1, 0, 3],
+        OPEN.to_vec(),
+        event(&[0x83, 0x81, 0x41, 0x85, 0xAA]),
+        event(&[0x83, 0x80, 0x00, 0x85, 0xBB]),
+        vec![35, 0, 9],
+    ];
+    let expected = "open 0 0 0 0\nsegment 0 0 0 0\nsegment 0 1 2 0\nrelease 0 0 0 0\n";
+    assert_eq!(MODEL.replay(&trace.concat()), expected);
+}
+
+#[test]
+fn replay_stops() {
+    assert_eq!(MODEL.replay(&[]), "");
+    assert_eq!(MODEL.replay(&[35, 0, 9, 1, 0, 3, 16, 0]), "release 1 0 0 0\nstop\n");
+    assert_eq!(MODEL.replay(&[34, 0, 0, 0]), "stop\n");
+    let after_open = [&OPEN[..], &[1, 0, 3], &[35, 0, 9]].concat();
+    assert_eq!(MODEL.replay(&after_open), "open 0 0 0 0\nstop\n");
+    let nine: Vec<u8> = (1..=9).flat_map(|context| [1, 0, context]).chain(OPEN).collect();
+    assert_eq!(MODEL.replay(&nine), "open 11 0 0 0\n");
+}
+
+/// Readings of the order of refusals 5 to 9.
+#[test]
+fn readings() {
+    let cases: &[(&[u8], u8)] = &[
+        (&[0x83, 0x80, 0x40], 5),
+        (&[0x83, 0x80, 0x40, 0x05], 6),
+        (&[0x84, 0x80, 0x40, 0x85, 0x15], 7),
+        (&[0x84, 0x80, 0xC1], 7),
+        (&[0x83, 0x80, 0x80], 7),
+        (&[0x05], 5),
+        (&[0x05, 0x05], 6),
+        (&[0x05, 0x80], 8),
+        (&[0x80, 0x80], 8),
+        (&[0x84, 0x80, 0xC0, 0x15], 9),
+        (&[0x84, 0x80, 0xC0, 0x14], 5),
+        (&[0x84, 0x80, 0xC0, 0x00, 0x15], 9),
+        (&[0x84, 0x80, 0xC0, 0x00], 5),
+    ];
+    for (parameter, expected) in cases {
+        assert_eq!(refusal(parameter), *expected, "{parameter:02X?}");
+    }
+}
+
+/// A restart, a loss of both, and line 1 before line 2.
+#[test]
+fn restart_and_losses() {
+    let mut host = Host::open(0);
+    host.segment(&[0x83, 0x81, 0x43, 0x85, 0xAA]);
+    host.clock(7);
+    let received = host.segment(&[0x83, 0x82, 0x42, 0x85, 0xBB, 0xCC]);
+    assert_eq!((cause(&host, &received), received.decision.place), (3, 0));
+    assert_eq!(host.report[..RECORD], record(17, 3, [5, 1, 3, 1], 1, &[]));
+    let place = host.table.places[0];
+    assert_eq!((place.start, place.instruction, place.octets), (7, 2, 2));
+    assert_eq!(host.store[..3], [0xBB, 0xCC, 0xEE]);
+    let received = host.segment(&[0x83, 0x83, 0x4A, 0x85, 0xDD]);
+    assert_eq!((cause(&host, &received), received.decision.place), (4, 0));
+    assert_eq!(host.report[..RECORD], record(17, 3, [5, 2, 4, 2], 3, &[]));
+    assert_eq!(host.open_places(), 0);
+}

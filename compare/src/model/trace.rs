@@ -1,0 +1,134 @@
+//! Replaying a trace of house octets, as text.
+
+use crate::cursor::Cursor;
+use crate::{Fault, Model, Opened, Table, PARAMETER, RECORD, STORE, SWEEP};
+
+/// One record of a trace.
+enum Item<'a> {
+    Register,
+    Open { timer: u32, clock: u32 },
+    Segment { association: u16, parameter: &'a [u8] },
+    Clock(u32),
+    Release(u16),
+}
+
+/// Why a trace ends before its octets do.
+enum Stop {
+    UnknownKind,
+    Cut,
+    RegistryAfterOpen,
+}
+
+/// The table, the lent areas and the registry as read so far.
+struct Replay {
+    model: Model,
+    registry: Vec<u8>,
+    opened: bool,
+    table: Table,
+    store: Vec<u8>,
+    report: [u8; SWEEP],
+}
+
+impl Model {
+    /// The whole output of the replay program for this input.
+    pub fn replay(&self, trace: &[u8]) -> String {
+        let mut replay = Replay {
+            model: *self,
+            registry: Vec::new(),
+            opened: false,
+            table: Table::default(),
+            store: vec![0; STORE],
+            report: [0; SWEEP],
+        };
+        let mut text = String::new();
+        let mut cursor = Cursor::new(trace);
+        while !cursor.rest().is_empty() {
+            let line = item(&mut cursor).and_then(|(octets, item)| replay.step(octets, item));
+            match line {
+                Ok(line) => text.push_str(&line),
+                Err(Stop::Cut) if self.broken(Fault::CutSilent) => break,
+                Err(_) => {
+                    text.push_str("stop\n");
+                    break;
+                }
+            }
+        }
+        text
+    }
+}
+
+/// The next record and all its octets.
+fn item<'a>(cursor: &mut Cursor<'a>) -> Result<(&'a [u8], Item<'a>), Stop> {
+    let whole = cursor.rest();
+    let kind = cursor.octet().ok_or(Stop::Cut)?;
+    let item = match kind {
+        1 | 2 => cursor.take(2).map(|_| Item::Register),
+        32 => open(cursor),
+        33 => segment(cursor),
+        34 => cursor.array().map(|time| Item::Clock(u32::from_be_bytes(time))),
+        35 => cursor.array().map(|number| Item::Release(u16::from_be_bytes(number))),
+        _ => return Err(Stop::UnknownKind),
+    };
+    let item = item.ok_or(Stop::Cut)?;
+    Ok((&whole[..whole.len() - cursor.rest().len()], item))
+}
+
+fn open<'a>(cursor: &mut Cursor<'a>) -> Option<Item<'a>> {
+    let (timer, clock) = (cursor.array()?, cursor.array()?);
+    Some(Item::Open { timer: u32::from_be_bytes(timer), clock: u32::from_be_bytes(clock) })
+}
+
+fn segment<'a>(cursor: &mut Cursor<'a>) -> Option<Item<'a>> {
+    let association = u16::from_be_bytes(cursor.array()?);
+    let length = cursor.octet()?;
+    let parameter = &cursor.take(PARAMETER)?[..usize::from(length)];
+    Some(Item::Segment { association, parameter })
+}
+
+impl Replay {
+    /// The record's line: none for a registry record.
+    fn step(&mut self, octets: &[u8], item: Item) -> Result<String, Stop> {
+        let model = self.model;
+        let report = &mut self.report;
+        let (name, table, refusal, records) = match item {
+            Item::Register if self.opened && !model.broken(Fault::RegistryAfterOpen) => {
+                return Err(Stop::RegistryAfterOpen);
+            }
+            Item::Register => {
+                self.registry.extend_from_slice(octets);
+                return Ok(String::new());
+            }
+            Item::Open { timer, clock } => {
+                self.opened = true;
+                let Opened { table, refusal } = model.opening(&self.registry, timer, clock);
+                ("open", table, refusal, 0)
+            }
+            Item::Segment { association, parameter } => {
+                let store = &mut self.store;
+                let got = model.segment(self.table, store, report, association, parameter);
+                ("segment", got.table, got.refusal, got.records)
+            }
+            Item::Clock(time) => {
+                let swept = model.clock(self.table, report, time);
+                ("clock", swept.table, swept.refusal, swept.records)
+            }
+            Item::Release(association) => {
+                let swept = model.release(self.table, report, association);
+                ("release", swept.table, swept.refusal, swept.records)
+            }
+        };
+        self.table = table;
+        Ok(self.line(name, refusal, usize::from(records)))
+    }
+
+    /// The octets are those of the records this call made.
+    fn line(&self, name: &str, refusal: u8, records: usize) -> String {
+        let most = if self.model.broken(Fault::FirstRecordOnly) { 1 } else { records };
+        let made = self.report.chunks_exact(RECORD).take(records.min(most));
+        let sum = |kind: u8| {
+            let octets = |record: &[u8]| u32::from(u16::from_be_bytes([record[9], record[10]]));
+            made.clone().filter(|record| record[0] == kind).map(octets).sum::<u32>()
+        };
+        format!("{name} {refusal} {records} {} {}\n", sum(16), sum(17))
+    }
+}
