@@ -3,7 +3,7 @@
 use crate::record::{Covered, Record};
 use crate::segment::{Position, Segment};
 use crate::sound::OPEN;
-use crate::{Decision, Fault, Model, Place, Received, Refusal, Table};
+use crate::{Decision, Fault, Key, Model, Place, Received, Refusal, Table};
 use crate::{PARAMETER, PLACES, RECORD, STORE, STRETCH};
 
 /// The receiving line that applies, with the place it concerns.
@@ -46,30 +46,18 @@ impl Model {
         association: u16,
         parameter: &[u8],
     ) -> Received {
-        let judged = self.judge(&table, store.len(), report.len(), association, parameter);
-        let (segment, line) = match judged {
-            Ok(judged) => judged,
-            Err(refusal) => {
-                if let (true, Some(octet)) = (self.broken(Fault::RefusedReport), report.first_mut())
-                {
-                    *octet = refusal.number();
-                }
-                return Received { table, refusal: refusal.number(), ..Received::default() };
+        match self.judge(&table, store.len(), report.len(), association, parameter) {
+            Ok((segment, line)) => {
+                let effect = self.effect(&table, &segment, line);
+                self.carry_out(effect, &segment, table, store, report)
             }
-        };
-        let effect = self.effect(&table, &segment, line, parameter.len());
-        let mut received = Received { table, decision: effect.decision, ..Received::default() };
-        if let Some((index, place)) = effect.place {
-            received.table.places[index] = place;
+            Err(refusal) => {
+                if self.broken(Fault::RefusedReport) {
+                    report.iter_mut().take(1).for_each(|octet| *octet = refusal.number());
+                }
+                Received { table, refusal: refusal.number(), ..Received::default() }
+            }
         }
-        if let Some(start) = effect.write {
-            store[start..][..segment.information.len()].copy_from_slice(segment.information);
-        }
-        if let Some(record) = effect.record {
-            report[..RECORD].copy_from_slice(&self.octets(&record));
-            received.records = 1;
-        }
-        received
     }
 
     /// All the refusals, and the line.
@@ -91,36 +79,30 @@ impl Model {
     }
 
     fn line(&self, table: &Table, segment: &Segment) -> Result<Line, Refusal> {
-        let open = table
-            .places
-            .iter()
-            .position(|place| place.is_open() && self.same(&place.key, &segment.key));
-        let restart_first = self.broken(Fault::RestartBeforeRemaining);
-        match (segment.position, open) {
-            (Position::Alone, _) => Ok(Line::Unsegmented),
-            (Position::First(_), Some(index)) if restart_first => Ok(Line::Restart(index)),
-            (Position::First(remaining) | Position::Later(remaining), _) if remaining > 9 => {
-                Ok(Line::TooMany(open))
+        let open = self.find(table, &segment.key);
+        Ok(match (segment.position, open) {
+            (Position::Alone, _) => Line::Unsegmented,
+            (Position::First(10..), Some(index)) if self.broken(Fault::RestartBeforeRemaining) => {
+                Line::Restart(index)
             }
-            (Position::First(_), Some(_))
-                if self.broken(Fault::FullRefusesRestart) && self.free(table).is_none() =>
-            {
-                Err(Refusal::Full)
+            (Position::First(10..) | Position::Later(10..), _) => Line::TooMany(open),
+            (Position::First(_), Some(index)) => {
+                if self.broken(Fault::FullRefusesRestart) {
+                    self.free(table)?;
+                }
+                Line::Restart(index)
             }
-            (Position::First(_), Some(index)) => Ok(Line::Restart(index)),
-            (Position::First(_), None) => self.free(table).map(Line::Begin).ok_or(Refusal::Full),
-            (Position::Later(_), None) => Ok(Line::Orphan),
-            (Position::Later(remaining), Some(index)) => Ok(self.later_line(
-                &table.places[index],
-                index,
-                remaining,
-                segment.information.len(),
-            )),
-        }
+            (Position::First(_), None) => Line::Begin(self.free(table)?),
+            (Position::Later(_), None) => Line::Orphan,
+            (Position::Later(remaining), Some(index)) => {
+                self.later_line(table, index, remaining, segment.information.len())
+            }
+        })
     }
 
     /// Lines 5 to 7. Remaining is at most 9 here.
-    fn later_line(&self, place: &Place, index: usize, remaining: u8, length: usize) -> Line {
+    fn later_line(&self, table: &Table, index: usize, remaining: u8, length: usize) -> Line {
+        let place = &table.places[index];
         let most = if self.broken(Fault::LongByOne) { STRETCH + 1 } else { STRETCH };
         let in_turn = match self.fault {
             Some(Fault::RemainingAtMost) => remaining < place.remaining,
@@ -137,53 +119,66 @@ impl Model {
         }
     }
 
-    fn free(&self, table: &Table) -> Option<usize> {
+    /// The open sequence of a key.
+    fn find(&self, table: &Table, key: &Key) -> Option<usize> {
+        table.places.iter().position(|place| place.is_open() && self.same(&place.key, key))
+    }
+
+    fn free(&self, table: &Table) -> Result<usize, Refusal> {
         let mut places = table.places.iter();
-        match self.fault {
+        let free = match self.fault {
             Some(Fault::HighestFree) => places.rposition(|place| !place.is_open()),
             _ => places.position(|place| !place.is_open()),
+        };
+        free.ok_or(Refusal::Full)
+    }
+
+    fn effect(&self, table: &Table, segment: &Segment, line: Line) -> Effect {
+        match line {
+            Line::Unsegmented => alone(segment),
+            Line::TooMany(None) => lost(4, None, Covered::this(segment), None),
+            Line::TooMany(Some(index)) => self.broken_off(4, table, index, segment),
+            Line::Restart(index) => self.restart(table, index, segment),
+            Line::Begin(index) => saved(index, first(table, segment), index * STRETCH),
+            Line::Orphan => lost(1, None, Covered::this(segment), None),
+            Line::OutOfTurn(index) => self.broken_off(2, table, index, segment),
+            Line::TooLong(index) => self.broken_off(5, table, index, segment),
+            Line::Finish(index) => self.finish(table, index, segment),
+            Line::Continue(index) => {
+                saved(index, self.longer(table, index, segment), self.end(table, index))
+            }
         }
     }
 
-    fn effect(&self, table: &Table, segment: &Segment, line: Line, length: usize) -> Effect {
-        let this = Covered::this(segment);
-        match line {
-            Line::Unsegmented => {
-                let length_of_it = segment.information.len();
-                let decision = Decision {
-                    kind: 2,
-                    start: length - length_of_it,
-                    length: length_of_it,
-                    ..Decision::default()
-                };
-                Effect {
-                    decision,
-                    record: Some(Record { cause: 0, covered: this }),
-                    place: None,
-                    write: None,
-                }
-            }
-            Line::TooMany(None) => lost(4, None, this, None),
-            Line::Orphan => lost(1, None, this, None),
-            Line::TooMany(Some(index)) => self.broken_off(4, table, index, segment),
-            Line::OutOfTurn(index) => self.broken_off(2, table, index, segment),
-            Line::TooLong(index) => self.broken_off(5, table, index, segment),
-            Line::Restart(index) => {
-                let saved = Covered::saved(&table.places[index]);
-                let first = if self.broken(Fault::RestartDropsNew) {
-                    Place::default()
-                } else {
-                    first(table, segment)
-                };
-                Effect { write: Some(index * STRETCH), ..lost(3, Some(index), saved, Some(first)) }
-            }
-            Line::Begin(index) => saved(index, first(table, segment), index * STRETCH),
-            Line::Continue(index) => {
-                let place = self.longer(table, &table.places[index], segment);
-                saved(index, place, self.end(table, index))
-            }
-            Line::Finish(index) => self.finish(table, index, segment),
+    fn carry_out(
+        &self,
+        effect: Effect,
+        segment: &Segment,
+        mut table: Table,
+        store: &mut [u8],
+        report: &mut [u8],
+    ) -> Received {
+        if let Some((index, place)) = effect.place {
+            table.places[index] = place;
         }
+        if let Some(start) = effect.write {
+            store[start..][..segment.information.len()].copy_from_slice(segment.information);
+        }
+        if let Some(record) = &effect.record {
+            report[..RECORD].copy_from_slice(&self.octets(record));
+        }
+        let records = effect.record.iter().count() as u8;
+        Received { table, decision: effect.decision, refusal: 0, records }
+    }
+
+    /// What was saved is lost; the new first segment takes its place.
+    fn restart(&self, table: &Table, index: usize, segment: &Segment) -> Effect {
+        let covered = Covered::saved(&table.places[index]);
+        let place = match self.fault {
+            Some(Fault::RestartDropsNew) => Place::default(),
+            _ => first(table, segment),
+        };
+        Effect { write: Some(index * STRETCH), ..lost(3, Some(index), covered, Some(place)) }
     }
 
     /// A loss that covers what was saved and this segment, and frees the place.
@@ -218,7 +213,8 @@ impl Model {
     }
 
     /// The place with this segment saved after the others.
-    fn longer(&self, table: &Table, place: &Place, segment: &Segment) -> Place {
+    fn longer(&self, table: &Table, index: usize, segment: &Segment) -> Place {
+        let place = &table.places[index];
         let start = if self.broken(Fault::TimerRestarted) { table.clock } else { place.start };
         Place {
             octets: place.octets + segment.information.len() as u16,
@@ -245,6 +241,13 @@ impl Model {
     }
 }
 
+fn alone(segment: &Segment) -> Effect {
+    let Segment { start, information, .. } = *segment;
+    let decision = Decision { kind: 2, start, length: information.len(), ..Decision::default() };
+    let record = Record { cause: 0, covered: Covered::this(segment) };
+    Effect { decision, record: Some(record), place: None, write: None }
+}
+
 fn saved(index: usize, place: Place, write: usize) -> Effect {
     let decision = Decision { kind: 1, place: index, ..Decision::default() };
     Effect { decision, record: None, place: Some((index, place)), write: Some(write) }
@@ -263,17 +266,13 @@ fn lost(cause: u8, index: Option<usize>, covered: Covered, after: Option<Place>)
 
 /// A place that this segment begins: the table's time is its start.
 fn first(table: &Table, segment: &Segment) -> Place {
-    let remaining = match segment.position {
-        Position::Alone => 0,
-        Position::First(remaining) | Position::Later(remaining) => remaining,
-    };
     Place {
         key: segment.key,
         octets: segment.information.len() as u16,
         start: table.clock,
         mark: OPEN,
         instruction: segment.instruction,
-        remaining,
+        remaining: segment.position.remaining(),
         segments: 1,
     }
 }

@@ -25,7 +25,18 @@ pub struct Segment<'a> {
     pub key: Key,
     pub instruction: u8,
     pub position: Position,
+    /// The information is the parameter's tail; this is where it starts.
+    pub start: usize,
     pub information: &'a [u8],
+}
+
+impl Position {
+    pub fn remaining(self) -> u8 {
+        match self {
+            Position::Alone => 0,
+            Position::First(remaining) | Position::Later(remaining) => remaining,
+        }
+    }
 }
 
 impl Table {
@@ -63,7 +74,9 @@ impl Model {
             self.address(&mut cursor)?;
         }
         let key = key(association, context, reference, origin);
-        Ok(Segment { key, instruction, position, information: cursor.rest() })
+        let information = cursor.rest();
+        let start = parameter.len() - information.len();
+        Ok(Segment { key, instruction, position, start, information })
     }
 
     /// Octet 3, and 3a if it is there, with the reference.

@@ -1,0 +1,106 @@
+//! The command line.
+
+use std::path::PathBuf;
+
+use model::Fault;
+
+pub const HELP: &str = "\
+compare: the proved library against a second implementation of document 01, call by call
+
+  compare [OPTIONS]
+
+  --seed N           seed of the generator (default 1)
+  --calls N          calls to compare (default 1000000); traces and round trips go along with them
+  --replay PATH      the replay program (default ../target/bin/replay beside this crate)
+  --calls-only       no traces
+  --traces-only      traces alone, as many as --calls would give
+  --against WHAT     library, or model: a plain model in place of library and replay program
+  --break NAME       breaks the model in one way: a difference has to be found
+  --breaks           breaks it in every way, one after the other, and says when each is found
+  --list-breaks      the names for --break
+  --help             this text
+
+Exit status 0: no difference (with --breaks: every one was found), and all that has to be met was
+met often enough; 1: otherwise; 2: the command line is wrong.
+";
+
+const REPLAY: &str = concat!(env!("CARGO_MANIFEST_DIR"), "/../target/bin/replay");
+
+pub enum Task {
+    Help,
+    ListBreaks,
+    Compare(Option<Fault>),
+    Breaks,
+}
+
+pub struct Arguments {
+    pub task: Task,
+    pub seed: u64,
+    pub calls: u64,
+    pub replay: PathBuf,
+    pub against: String,
+    pub only_calls: bool,
+    pub only_traces: bool,
+}
+
+impl Arguments {
+    pub fn read(mut words: impl Iterator<Item = String>) -> Result<Arguments, String> {
+        let mut arguments = Arguments {
+            task: Task::Compare(None),
+            seed: 1,
+            calls: 1_000_000,
+            replay: REPLAY.into(),
+            against: "library".into(),
+            only_calls: false,
+            only_traces: false,
+        };
+        while let Some(word) = words.next() {
+            let mut value = || words.next().ok_or(format!("{word} needs a value"));
+            match word.as_str() {
+                "--seed" => arguments.seed = number(&value()?)?,
+                "--calls" => arguments.calls = number(&value()?)?,
+                "--replay" => arguments.replay = value()?.into(),
+                "--against" => arguments.against = value()?,
+                "--calls-only" => arguments.only_calls = true,
+                "--traces-only" => arguments.only_traces = true,
+                "--break" => arguments.task = Task::Compare(Some(fault(&value()?)?)),
+                "--breaks" => arguments.task = Task::Breaks,
+                "--list-breaks" => arguments.task = Task::ListBreaks,
+                "--help" | "-h" => arguments.task = Task::Help,
+                _ => return Err(format!("unknown option {word}")),
+            }
+        }
+        arguments.check()?;
+        Ok(arguments)
+    }
+
+    fn check(&self) -> Result<(), String> {
+        let compares = matches!(self.task, Task::Compare(_) | Task::Breaks);
+        match self.against.as_str() {
+            "model" | "library" if !compares => Ok(()),
+            "model" => Ok(()),
+            "library" if !cfg!(feature = "library") => {
+                Err("built without the library: only --against model is possible".into())
+            }
+            "library" if self.only_calls || self.replay.is_file() => Ok(()),
+            "library" => Err(format!(
+                "no replay program at {}: give --replay, or --calls-only",
+                self.replay.display()
+            )),
+            other => Err(format!("--against {other}: it is library or model")),
+        }?;
+        match self.only_calls && self.only_traces {
+            true => Err("--calls-only and --traces-only leave nothing".into()),
+            false => Ok(()),
+        }
+    }
+}
+
+fn number(text: &str) -> Result<u64, String> {
+    text.parse().map_err(|_| format!("{text} is not a number"))
+}
+
+fn fault(name: &str) -> Result<Fault, String> {
+    let fault = Fault::ALL.iter().find(|fault| fault.name() == name);
+    fault.copied().ok_or(format!("no break is named {name}: see --list-breaks"))
+}

@@ -1,0 +1,130 @@
+//! One input to both sides, and everything they leave behind compared.
+
+use crate::input::{hex, Answer, Input};
+use crate::random::Random;
+use crate::side::Side;
+
+/// Octets before and after each lent area, which no call may write.
+const GUARD: usize = 64;
+const LONGEST_STORE: usize = 36_864;
+const LONGEST_REPORT: usize = 576;
+const LONGEST_AREA: usize = 384;
+
+/// What one side is lent.
+struct Lent {
+    store: Vec<u8>,
+    report: Vec<u8>,
+    area: Vec<u8>,
+}
+
+pub struct Pair<'a> {
+    /// The model, then the side it is compared with.
+    pub sides: [&'a dyn Side; 2],
+    lent: [Lent; 2],
+    noise: Vec<u8>,
+}
+
+impl<'a> Pair<'a> {
+    pub fn new(sides: [&'a dyn Side; 2], random: &mut Random) -> Self {
+        let store = random.octets(LONGEST_STORE + 2 * GUARD);
+        let lent = || Lent {
+            store: store.clone(),
+            report: vec![0; LONGEST_REPORT + 2 * GUARD],
+            area: vec![0; LONGEST_AREA + 2 * GUARD],
+        };
+        Pair { sides, lent: [lent(), lent()], noise: random.octets(1 << 16) }
+    }
+
+    /// The answer both sides gave, or what differs.
+    pub fn run(&mut self, input: &Input, random: &mut Random) -> Result<Answer, String> {
+        let start = self.refill(random);
+        let [left, right] = &mut self.lent;
+        let answers = [left.call(self.sides[0], input), right.call(self.sides[1], input)];
+        let same = answers[0] == answers[1]
+            && self.lent[0].store == self.lent[1].store
+            && self.lent[0].report == self.lent[1].report
+            && self.lent[0].area == self.lent[1].area;
+        if same {
+            Ok(answers[1])
+        } else {
+            Err(self.difference(input, answers, start))
+        }
+    }
+
+    /// New contents for the short areas, so that a stray write is seen; where in the noise from.
+    fn refill(&mut self, random: &mut Random) -> usize {
+        let Lent { report, area, .. } = &self.lent[0];
+        let start = random.below(self.noise.len() - report.len() - area.len());
+        let (report, area) = (start + report.len(), start + report.len() + area.len());
+        for lent in &mut self.lent {
+            lent.report.copy_from_slice(&self.noise[start..report]);
+            lent.area.copy_from_slice(&self.noise[report..area]);
+        }
+        start
+    }
+
+    fn difference(&self, input: &Input, answers: [Answer; 2], start: usize) -> String {
+        let [left, right] = &self.lent;
+        let mut text = format!("{input}model answers:   {}\n", answers[0]);
+        text += &format!("library answers: {}\n", answers[1]);
+        let areas = [("store", &left.store, &right.store), ("area", &left.area, &right.area)];
+        for (name, left, right) in areas {
+            text += &octets_difference(name, left, right);
+        }
+        if left.report != right.report {
+            let before = &self.noise[start..][..left.report.len()];
+            text += &format!("report before:   {}\n", hex(before));
+            text += &format!("report, model:   {}\n", hex(&left.report));
+            text += &format!("report, library: {}\n", hex(&right.report));
+        }
+        text
+    }
+}
+
+/// The stretch of an area in which the two sides differ.
+fn octets_difference(name: &str, left: &[u8], right: &[u8]) -> String {
+    let differs = |(a, b): (&u8, &u8)| a != b;
+    let Some(first) = left.iter().zip(right).position(differs) else { return String::new() };
+    let last = left.iter().zip(right).rposition(differs).unwrap_or(first);
+    let (model, library) = (hex(&left[first..=last]), hex(&right[first..=last]));
+    let at = first as i64 - GUARD as i64;
+    format!("{name} differs from octet {at} on:\n  model:   {model}\n  library: {library}\n")
+}
+
+impl Lent {
+    fn call(&mut self, side: &dyn Side, input: &Input) -> Answer {
+        let Lent { store, report, area } = self;
+        let (store, report) = (&mut store[GUARD..], &mut report[GUARD..]);
+        match *input {
+            Input::Opening { ref registry, timer, clock } => {
+                Answer::Opened(side.opening(registry, timer, clock))
+            }
+            Input::Segment { table, store: length, report: room, association, ref parameter } => {
+                let store = &mut store[..length];
+                let report = &mut report[..room];
+                let received = side.segment(table, store, report, association, parameter);
+                Answer::Received(received, side.delivery(received.decision, parameter, store))
+            }
+            Input::Clock { table, report: room, time } => {
+                Answer::Swept(side.clock(table, &mut report[..room], time))
+            }
+            Input::Release { table, report: room, association } => {
+                Answer::Swept(side.release(table, &mut report[..room], association))
+            }
+            Input::Delivery { decision, ref parameter, store: length } => {
+                Answer::Part(side.delivery(decision, parameter, &store[..length]))
+            }
+            Input::Sending {
+                table,
+                request,
+                ref origin,
+                ref destination,
+                ref data,
+                area: room,
+            } => {
+                let area = &mut area[GUARD..][..room];
+                Answer::Sent(side.sending(table, request, origin, destination, data, area))
+            }
+        }
+    }
+}

@@ -1,0 +1,68 @@
+//! The calls of document 01, whoever answers them.
+
+use model::*;
+
+pub trait Side {
+    fn opening(&self, registry: &[u8], timer: u32, clock: u32) -> Opened;
+    fn segment(
+        &self,
+        table: Table,
+        store: &mut [u8],
+        report: &mut [u8],
+        association: u16,
+        parameter: &[u8],
+    ) -> Received;
+    fn clock(&self, table: Table, report: &mut [u8], time: u32) -> Swept;
+    fn release(&self, table: Table, report: &mut [u8], association: u16) -> Swept;
+    fn delivery(&self, decision: Decision, parameter: &[u8], store: &[u8]) -> Part;
+    fn sending(
+        &self,
+        table: Table,
+        request: Request,
+        origin: &[u8],
+        destination: &[u8],
+        data: &[u8],
+        area: &mut [u8],
+    ) -> Sent;
+}
+
+impl Side for Model {
+    fn opening(&self, registry: &[u8], timer: u32, clock: u32) -> Opened {
+        self.opening(registry, timer, clock)
+    }
+
+    fn segment(
+        &self,
+        table: Table,
+        store: &mut [u8],
+        report: &mut [u8],
+        association: u16,
+        parameter: &[u8],
+    ) -> Received {
+        self.segment(table, store, report, association, parameter)
+    }
+
+    fn clock(&self, table: Table, report: &mut [u8], time: u32) -> Swept {
+        self.clock(table, report, time)
+    }
+
+    fn release(&self, table: Table, report: &mut [u8], association: u16) -> Swept {
+        self.release(table, report, association)
+    }
+
+    fn delivery(&self, decision: Decision, parameter: &[u8], store: &[u8]) -> Part {
+        self.delivery(decision, parameter, store)
+    }
+
+    fn sending(
+        &self,
+        table: Table,
+        request: Request,
+        origin: &[u8],
+        destination: &[u8],
+        data: &[u8],
+        area: &mut [u8],
+    ) -> Sent {
+        self.sending(table, request, origin, destination, data, area)
+    }
+}

@@ -1,0 +1,212 @@
+//! Random traces, and the text that replaying them gives.
+
+use std::io::{Read, Write};
+use std::path::PathBuf;
+use std::process::{Command, Stdio};
+use std::thread;
+
+use crate::input::hex;
+use crate::random::Random;
+use crate::scene;
+use crate::tables;
+use model::*;
+
+/// Who replays: the program, or the model where there is no library to compare with.
+pub enum Replayer {
+    Program(PathBuf),
+    Model(Model),
+}
+
+impl Replayer {
+    pub fn replay(&self, trace: &[u8]) -> Result<String, String> {
+        match self {
+            Replayer::Model(model) => Ok(model.replay(trace)),
+            Replayer::Program(path) => {
+                run(path, trace).map_err(|error| format!("{}: {error}\n", path.display()))
+            }
+        }
+    }
+}
+
+/// Input and output at the same time, since neither has to fit into a pipe.
+fn run(path: &PathBuf, trace: &[u8]) -> Result<String, String> {
+    let mut child = Command::new(path)
+        .stdin(Stdio::piped())
+        .stdout(Stdio::piped())
+        .spawn()
+        .map_err(|error| error.to_string())?;
+    let mut input = child.stdin.take().ok_or("no standard input")?;
+    let mut output = child.stdout.take().ok_or("no standard output")?;
+    let mut text = Vec::new();
+    let read = thread::scope(|scope| {
+        // A program that stops early closes its input: that is no error here.
+        scope.spawn(move || input.write_all(trace).ok());
+        output.read_to_end(&mut text)
+    });
+    let status = child.wait().map_err(|error| error.to_string())?;
+    read.map_err(|error| error.to_string())?;
+    if status.code().is_none() {
+        return Err(format!("ended by a signal: {status}"));
+    }
+    Ok(String::from_utf8_lossy(&text).into_owned())
+}
+
+/// A trace as it is written, with the state that its events lead to so that they mean something.
+struct Scribe<'a> {
+    random: &'a mut Random,
+    trace: Vec<u8>,
+    registry: Vec<u8>,
+    table: Table,
+    store: Vec<u8>,
+    report: Vec<u8>,
+}
+
+const PLAIN: fn() -> Model = Model::default;
+
+impl Scribe<'_> {
+    fn register(&mut self, count: usize) {
+        for entry in tables::entries(self.random, count) {
+            let [high, low] = entry.context.to_be_bytes();
+            self.registry.extend([entry.kind, high, low]);
+        }
+        if self.random.one_in(30) {
+            // In the trace no registry record is refused, but the open is.
+            let bad = self.random.pick(&[[1, 0, 0], [2, 0x40, 0], [1, 0xff, 0xff]]);
+            self.registry.extend(bad);
+        }
+        self.trace.extend(&self.registry);
+    }
+
+    fn open(&mut self) {
+        let timer = match self.random.one_in(12) {
+            true => self.random.pick(&[0, 1_000_001, u32::MAX]),
+            false => tables::timer(self.random),
+        };
+        let clock = tables::clock(self.random);
+        self.trace.push(32);
+        self.trace.extend(timer.to_be_bytes());
+        self.trace.extend(clock.to_be_bytes());
+        self.table = PLAIN().opening(&self.registry, timer, clock).table;
+    }
+
+    fn segment(&mut self) {
+        let scene = scene::scene(self.random, &self.table);
+        let mut parameter = scene.wire.octets();
+        if self.random.one_in(15) {
+            let length = self.random.within(0..=255);
+            parameter = self.random.octets(length);
+        }
+        self.trace.push(33);
+        self.trace.extend(scene.association.to_be_bytes());
+        self.trace.push(parameter.len() as u8);
+        self.trace.extend(&parameter);
+        let rest = self.random.octets(PARAMETER - parameter.len());
+        self.trace.extend(rest);
+        let (store, report) = (&mut self.store, &mut self.report);
+        let got = PLAIN().segment(self.table, store, report, scene.association, &parameter);
+        self.table = got.table;
+    }
+
+    fn clock(&mut self) {
+        let step = match self.random.below(12) {
+            0 => self.random.pick(&[1 << 31, (1 << 31) - 1, u32::MAX]),
+            1 => self.table.timer,
+            2 => self.table.timer.saturating_sub(1),
+            _ => self.random.below(8) as u32,
+        };
+        let time = self.table.clock.wrapping_add(step);
+        self.trace.push(34);
+        self.trace.extend(time.to_be_bytes());
+        self.table = PLAIN().clock(self.table, &mut self.report, time).table;
+    }
+
+    fn release(&mut self) {
+        let association = tables::association(self.random);
+        self.trace.push(35);
+        self.trace.extend(association.to_be_bytes());
+        self.table = PLAIN().release(self.table, &mut self.report, association).table;
+    }
+
+    fn events(&mut self, count: usize) {
+        for _ in 0..count {
+            match self.random.weighted(&[1, 80, 12, 4]) {
+                0 => self.open(),
+                1 => self.segment(),
+                2 => self.clock(),
+                _ => self.release(),
+            }
+        }
+    }
+
+    /// Something after which the trace is not replayed to its end, or just garbage.
+    fn damage(&mut self) {
+        match self.random.below(6) {
+            0 => self.trace.truncate(self.random.within(0..=self.trace.len())),
+            1 => {
+                let kind = self.random.pick(&[0, 3, 15, 16, 17, 18, 31, 36, 128, 255]);
+                self.trace.push(kind);
+                self.events(3);
+            }
+            2 => {
+                let kind = self.random.within(1..=2) as u8;
+                self.trace.extend([kind, 0, 3]);
+                self.events(3);
+            }
+            3 => {
+                let at = self.random.below(self.trace.len().max(1));
+                let bit = 1 << self.random.below(8);
+                self.trace.iter_mut().skip(at).take(1).for_each(|octet| *octet ^= bit);
+            }
+            4 => {
+                let length = self.random.below(40);
+                let garbage = self.random.octets(length);
+                self.trace.extend(garbage);
+            }
+            _ => self.trace.extend([33, 0, 9]),
+        }
+    }
+}
+
+pub fn trace(random: &mut Random) -> Vec<u8> {
+    let (table, store, report) = (Table::default(), vec![0; STORE], vec![0; SWEEP]);
+    let (trace, registry) = (Vec::new(), Vec::new());
+    let mut scribe = Scribe { random, trace, registry, table, store, report };
+    if scribe.random.one_in(8) {
+        // Before the first open: without 32, so that registry records may still follow.
+        for _ in 0..3 {
+            match scribe.random.below(3) {
+                0 => scribe.segment(),
+                1 => scribe.clock(),
+                _ => scribe.release(),
+            }
+        }
+    }
+    let count = scribe.random.within(0..=9);
+    scribe.register(count);
+    scribe.open();
+    let events = scribe.random.pick(&[5, 50, 150, 300]);
+    scribe.events(events);
+    if scribe.random.one_in(2) {
+        scribe.damage();
+    }
+    scribe.trace
+}
+
+/// The model's text and the other side's, line by line.
+pub fn compare(model: &Model, other: &Replayer, trace: &[u8]) -> Result<String, String> {
+    let (left, right) = (model.replay(trace), other.replay(trace)?);
+    if left == right {
+        return Ok(right);
+    }
+    let same = left.lines().zip(right.lines()).take_while(|(left, right)| left == right).count();
+    let line = |text: &str| text.lines().nth(same).unwrap_or("(no line)").to_string();
+    Err(format!(
+        "replay differs at line {}\nmodel:   {}\nprogram: {}\ntrace: {}\nmodel's output ends in {:?}, program's in {:?}\n",
+        same + 1,
+        line(&left),
+        line(&right),
+        hex(trace),
+        left.chars().next_back(),
+        right.chars().next_back(),
+    ))
+}

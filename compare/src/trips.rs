@@ -1,0 +1,199 @@
+//! Round trips: data cut by one side, joined by the other, and the same again.
+
+use crate::input::{hex, table_hex};
+use crate::random::Random;
+use crate::side::Side;
+use crate::tables;
+use model::*;
+
+/// One sequence on its way.
+struct Trip {
+    context: u16,
+    instruction: u8,
+    reference: u8,
+    association: u16,
+    addresses: [Vec<u8>; 2],
+    data: Vec<u8>,
+    rooms: [usize; 2],
+    /// The segments not yet received, the last one first.
+    segments: Vec<Vec<u8>>,
+    count: usize,
+}
+
+pub struct Ends<'a> {
+    pub sender: &'a dyn Side,
+    pub receiver: &'a dyn Side,
+}
+
+impl Ends<'_> {
+    /// Some sequences at once, one of them of `n` octets; the counts of their segments.
+    pub fn go(&self, random: &mut Random, n: usize) -> Result<Vec<usize>, String> {
+        let (count, open) = (random.within(1..=8), random.within(0..=13));
+        let mut table = tables::sound_with(random, count, open);
+        let mut trips = Vec::new();
+        for number in 0..random.within(1..=3) {
+            let n = if number == 0 { n } else { other_length(random) };
+            trips.push(self.cut(random, &table, n, number as u8)?);
+        }
+        let mut counts = Vec::new();
+        let mut store = random.octets(STORE);
+        while !trips.is_empty() {
+            let at = random.below(trips.len());
+            if let Some(data) = self.join(&mut table, &mut store, &mut trips[at])? {
+                let trip = trips.swap_remove(at);
+                if data != trip.data {
+                    return Err(trip.failed("the data joined is another", &table));
+                }
+                counts.push(trip.count);
+            }
+        }
+        Ok(counts)
+    }
+
+    /// All the segments of new data. The references keep the sequences apart.
+    fn cut(
+        &self,
+        random: &mut Random,
+        table: &Table,
+        n: usize,
+        number: u8,
+    ) -> Result<Trip, String> {
+        let key = tables::key(random, table);
+        let entry = table.registry.iter().find(|entry| entry.context == key.context);
+        let addresses = match entry.map(|entry| entry.kind) {
+            Some(2) => [key.address[..key.length.into()].to_vec(), tables::address(random)],
+            _ => [vec![], vec![]],
+        };
+        let mut trip = Trip {
+            context: key.context,
+            instruction: random.below(4) as u8,
+            reference: 40 + number,
+            association: key.association,
+            data: random.octets(n),
+            rooms: rooms(random, header(key.context, entry, &addresses), n),
+            addresses,
+            segments: vec![],
+            count: 1,
+        };
+        while trip.segments.len() < trip.count {
+            let segment = self.send(&mut trip, table)?;
+            trip.segments.push(segment);
+        }
+        trip.segments.reverse();
+        Ok(trip)
+    }
+
+    fn send(&self, trip: &mut Trip, table: &Table) -> Result<Vec<u8>, String> {
+        let [room1, room] = trip.rooms;
+        let Trip { context, instruction, reference, .. } = *trip;
+        let number = trip.segments.len();
+        let request = Request { context, instruction, reference, room1, room, number };
+        let mut area = [0; PARAMETER];
+        let [origin, destination] = &trip.addresses;
+        let sent = self.sender.sending(*table, request, origin, destination, &trip.data, &mut area);
+        let first = number == 0;
+        if sent.refusal != 0 || !first && usize::from(sent.count) != trip.count {
+            let why = format!("segment {number} is not sent as it should be: {sent:?}");
+            return Err(trip.failed(&why, table));
+        }
+        trip.count = sent.count.into();
+        let room = if first { room1 } else { room };
+        if usize::from(sent.length) > room || trip.count > SEGMENTS {
+            return Err(trip.failed("a segment has no room", table));
+        }
+        Ok(area[..sent.length.into()].to_vec())
+    }
+
+    /// Gives the trip's next segment to the receiver; the data when that was the last.
+    fn join(
+        &self,
+        table: &mut Table,
+        store: &mut [u8],
+        trip: &mut Trip,
+    ) -> Result<Option<Vec<u8>>, String> {
+        let before = *table;
+        let mut report = [0; RECORD];
+        let segment = trip.segments.pop().unwrap_or_default();
+        let got = self.receiver.segment(before, store, &mut report, trip.association, &segment);
+        *table = got.table;
+        let last = trip.segments.is_empty();
+        let good = match (got.decision.kind, last) {
+            (1, false) => got.records == 0,
+            (2, true) => trip.count == 1,
+            (3, true) => trip.count > 1,
+            _ => false,
+        };
+        if !good {
+            let why = format!("a segment {} gives {:?}", hex(&segment), got.decision);
+            return Err(trip.failed(&why, &before));
+        }
+        if !last {
+            return Ok(None);
+        }
+        if report[..] != trip.record() {
+            return Err(trip.failed(&format!("the record is {}", hex(&report)), &before));
+        }
+        let part = self.receiver.delivery(got.decision, &segment, store);
+        let from = if part.source == 0 { &segment } else { &*store };
+        Ok(Some(from[part.start..][..part.length].to_vec()))
+    }
+}
+
+impl Trip {
+    /// The record of its delivery, octet by octet from document 01's table.
+    fn record(&self) -> Vec<u8> {
+        let reference = if self.count == 1 { UNSEGMENTED } else { self.reference };
+        let mut record = vec![16];
+        record.extend(self.association.to_be_bytes());
+        record.extend(self.context.to_be_bytes());
+        record.extend([reference, self.instruction, 0, self.count as u8]);
+        record.extend((self.data.len() as u16).to_be_bytes());
+        record.push(self.addresses[0].len() as u8);
+        record.extend(&self.addresses[0]);
+        record.resize(RECORD, 0);
+        record
+    }
+
+    fn failed(&self, why: &str, table: &Table) -> String {
+        let [origin, destination] = &self.addresses;
+        format!(
+            "round trip: {why}\ncontext {}, instruction {}, reference {}, association {}, rooms {:?}\norigin: {}\ndestination: {}\ndata: {}\ntable: {}\n",
+            self.context,
+            self.instruction,
+            self.reference,
+            self.association,
+            self.rooms,
+            hex(origin),
+            hex(destination),
+            hex(&self.data),
+            table_hex(table),
+        )
+    }
+}
+
+fn header(context: u16, entry: Option<&Entry>, addresses: &[Vec<u8>; 2]) -> usize {
+    let fields =
+        if entry.is_some_and(|entry| entry.kind == 2) { 2 + addresses.concat().len() } else { 0 };
+    fields + 2 + if context > 127 { 2 } else { 1 }
+}
+
+fn other_length(random: &mut Random) -> usize {
+    let any = random.within(0..=STRETCH);
+    random.pick(&[0, 1, STRETCH - 1, STRETCH, any, any])
+}
+
+/// Rooms with which `n` octets are cut into 1 to 10 segments, mostly just enough.
+fn rooms(random: &mut Random, h: usize, n: usize) -> [usize; 2] {
+    let aim = random.within(1..=10);
+    let most = PARAMETER - h - 1;
+    if aim == 1 && h + n <= PARAMETER {
+        return [random.pick(&[h + n, PARAMETER]), random.within(0..=PARAMETER)];
+    }
+    let share = n.div_ceil(aim);
+    let first = random.pick(&[share, 0, share / 2, share + 1]).min(most);
+    let later = n.saturating_sub(first).div_ceil(aim.max(2) - 1).max(1);
+    match later > most {
+        true => [PARAMETER, PARAMETER],
+        false => [h + 1 + first, h + 1 + later],
+    }
+}

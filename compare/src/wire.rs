@@ -1,0 +1,69 @@
+//! A parameter's fields, good or damaged, and their octets. Written apart from both sides.
+
+/// An octet that has to have extension 1.
+#[derive(Clone, Copy, Debug, PartialEq, Eq)]
+pub enum Field {
+    Octet1a,
+    Octet2,
+    Octet3a,
+}
+
+#[derive(Clone, Debug, Default)]
+pub struct Wire {
+    pub context: u16,
+    /// The context in two octets though one would do.
+    pub long: bool,
+    pub spare: u8,
+    pub instruction: u8,
+    pub new: bool,
+    pub remaining: u8,
+    /// Octet 3a, if it is there.
+    pub reference: Option<u8>,
+    /// Originating and destination address, where the context is of 2000.
+    pub addresses: Option<[Vec<u8>; 2]>,
+    pub information: Vec<u8>,
+    /// A field whose extension is 0.
+    pub open: Option<Field>,
+    /// An address (0 or 1) with another length octet than its own.
+    pub length: Option<(usize, u8)>,
+}
+
+impl Wire {
+    /// The octets before the information.
+    pub fn header(&self) -> Vec<u8> {
+        let closed = |field: Field| if self.open == Some(field) { 0 } else { 0x80 };
+        let (low, high) = ((self.context & 0x7f) as u8, (self.context >> 7) as u8 & 0x7f);
+        let mut octets = Vec::with_capacity(64);
+        if self.long || high != 0 {
+            octets.extend([low, closed(Field::Octet1a) | high]);
+        } else {
+            octets.push(0x80 | low);
+        }
+        octets.push(closed(Field::Octet2) | self.spare << 2 | self.instruction);
+        let octet3 = u8::from(self.new) << 6 | self.remaining & 0x3f;
+        match self.reference {
+            Some(reference) => {
+                octets.extend([octet3, closed(Field::Octet3a) | reference & 0x7f]);
+            }
+            None => octets.push(0x80 | octet3),
+        }
+        for (i, address) in self.addresses.iter().flatten().enumerate() {
+            let own = address.len() as u8;
+            octets
+                .push(self.length.filter(|(which, _)| *which == i).map_or(own, |(_, other)| other));
+            octets.extend(address);
+        }
+        octets
+    }
+
+    /// Takes away information until the parameter has at most 255 octets.
+    pub fn fit(&mut self) {
+        self.information.truncate(255 - self.header().len());
+    }
+
+    pub fn octets(&self) -> Vec<u8> {
+        let mut octets = self.header();
+        octets.extend(&self.information);
+        octets
+    }
+}
