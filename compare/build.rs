@@ -14,8 +14,5 @@ fn main() {
     let chosen = env::var_os("EGRYNNOL_LIB").unwrap_or_else(|| "../target/staticlib".into());
     let directory: PathBuf = home.join(chosen);
     println!("cargo:rustc-link-search=native={}", directory.display());
-    let archive = directory.join("libhost.a");
-    if archive.exists() {
-        println!("cargo:rerun-if-changed={}", archive.display());
-    }
+    println!("cargo:rerun-if-changed={}", directory.join("libhost.a").display());
 }

@@ -12,6 +12,7 @@ compare: the proved library against a second implementation of document 01, call
   --seed N           seed of the generator (default 1)
   --calls N          calls to compare (default 1000000); traces and round trips go along with them
   --replay PATH      the replay program (default ../target/bin/replay beside this crate)
+  --show N           prints the input of call N before it is made
   --calls-only       no traces
   --traces-only      traces alone, as many as --calls would give
   --against WHAT     library, or model: a plain model in place of library and replay program
@@ -37,6 +38,7 @@ pub struct Arguments {
     pub task: Task,
     pub seed: u64,
     pub calls: u64,
+    pub show: Option<u64>,
     pub replay: PathBuf,
     pub against: String,
     pub only_calls: bool,
@@ -49,6 +51,7 @@ impl Arguments {
             task: Task::Compare(None),
             seed: 1,
             calls: 1_000_000,
+            show: None,
             replay: REPLAY.into(),
             against: "library".into(),
             only_calls: false,
@@ -59,6 +62,7 @@ impl Arguments {
             match word.as_str() {
                 "--seed" => arguments.seed = number(&value()?)?,
                 "--calls" => arguments.calls = number(&value()?)?,
+                "--show" => arguments.show = Some(number(&value()?)?),
                 "--replay" => arguments.replay = value()?.into(),
                 "--against" => arguments.against = value()?,
                 "--calls-only" => arguments.only_calls = true,

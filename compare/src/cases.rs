@@ -175,7 +175,8 @@ impl World {
             1 => random.within(14..=18),
             _ => random.below(16),
         };
-        let kind = random.pick(&[0, 1, 2, 2, 2, 3, 3, 3, 3, 4, 5, 255]);
+        let any = random.octet();
+        let kind = random.pick(&[0, 1, 2, 2, 2, 3, 3, 3, 3, 4, 5, any]);
         let left = match kind {
             2 => parameter.len().saturating_sub(start),
             _ => store.saturating_sub(place.saturating_mul(STRETCH)).min(2 * STRETCH),

@@ -44,6 +44,9 @@ pub struct Coverage {
     /// Empty parts, parts of the parameter, parts of the store.
     parts: [u64; 3],
     counts: [u64; SEGMENTS + 1],
+    /// Segment calls by length of the parameter.
+    lengths: [u64; 301],
+    pub exhaustive: u64,
     pub traces: u64,
     pub trace_lines: u64,
     pub stops: u64,
@@ -62,6 +65,8 @@ impl Coverage {
             rules: [0; RULES.len()],
             parts: [0; 3],
             counts: [0; SEGMENTS + 1],
+            lengths: [0; 301],
+            exhaustive: 0,
             traces: 0,
             trace_lines: 0,
             stops: 0,
@@ -85,6 +90,9 @@ impl Coverage {
         }
         if let Some(rule) = case.rule {
             self.rules[rule] += 1;
+        }
+        if let Input::Segment { parameter, .. } = &case.input {
+            self.lengths[parameter.len()] += 1;
         }
         match *answer {
             Answer::Received(ref received, part) => self.received(&case.input, received, part),
@@ -177,6 +185,12 @@ impl Coverage {
         for (count, met) in self.counts.iter().enumerate().skip(1) {
             check(*met, format!("sent as {count} segments"));
         }
+        for (count, met) in self.trip_segments.iter().enumerate().skip(1) {
+            check(*met, format!("round trips of {count} segments"));
+        }
+        for length in (0..=256).chain([300]) {
+            check(self.lengths[length] * 10, format!("parameters of {length} octets (times 10)"));
+        }
         missing
     }
 }
@@ -208,6 +222,9 @@ impl fmt::Display for Coverage {
         list(f, "unsound tables", &RULES, &self.rules)?;
         let counts: Vec<String> = (1..=SEGMENTS).map(|count| count.to_string()).collect();
         list(f, "sent, by count of segments", &counts, &self.counts[1..])?;
+        let lengths = self.lengths.iter().filter(|met| **met > 0).count();
+        writeln!(f, "lengths of parameters: {lengths}")?;
+        writeln!(f, "exhaustive: {} calls", self.exhaustive)?;
         writeln!(
             f,
             "traces: {} with {} lines, {} stopped",

@@ -3,6 +3,7 @@
 mod arguments;
 mod cases;
 mod coverage;
+mod exhaustive;
 mod input;
 #[cfg(feature = "library")]
 mod library;

@@ -3,6 +3,7 @@
 use crate::arguments::Arguments;
 use crate::cases::World;
 use crate::coverage::Coverage;
+use crate::exhaustive::Exhaustive;
 #[cfg(feature = "library")]
 use crate::library::Library;
 use crate::pair::Pair;
@@ -73,13 +74,21 @@ impl<'a> Run<'a> {
         for round in 0..self.arguments.calls.div_ceil(ROUND) {
             if !self.arguments.only_traces {
                 let calls = ROUND.min(self.arguments.calls - round * ROUND);
-                (0..calls).try_for_each(|_| call(&mut pair, &mut world, &mut noise, coverage))?;
+                (0..calls).try_for_each(|_| {
+                    call(self.arguments, &mut pair, &mut world, &mut noise, coverage)
+                })?;
                 (round * TRIPS..(round + 1) * TRIPS)
                     .try_for_each(|number| trip(&pair, &mut noise, coverage, number))?;
             }
             if !self.arguments.only_calls {
                 trace(&model, &self.replayer, &mut trace_random, coverage)?;
             }
+        }
+        if !self.arguments.only_traces {
+            let mut exhaustive = Exhaustive { pair: &mut pair, random: &mut noise, calls: 0 };
+            let done = exhaustive.go();
+            coverage.exhaustive = exhaustive.calls;
+            done?;
         }
         Ok(())
     }
@@ -94,12 +103,16 @@ impl<'a> Run<'a> {
 }
 
 fn call(
+    arguments: &Arguments,
     pair: &mut Pair,
     world: &mut World,
     noise: &mut Random,
     coverage: &mut Coverage,
 ) -> Result<(), String> {
     let case = world.case();
+    if arguments.show == Some(coverage.calls() + 1) {
+        println!("{}", case.input);
+    }
     let answer = pair.run(&case.input, noise)?;
     if !case.expects(answer.refusal()) {
         let (held, refusal) = (&case.held, answer.refusal());

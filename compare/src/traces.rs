@@ -143,7 +143,8 @@ impl Scribe<'_> {
         match self.random.below(6) {
             0 => self.trace.truncate(self.random.within(0..=self.trace.len())),
             1 => {
-                let kind = self.random.pick(&[0, 3, 15, 16, 17, 18, 31, 36, 128, 255]);
+                let any = self.random.octet();
+                let kind = self.random.pick(&[0, 3, 15, 16, 17, 18, 31, 36, 255, any]);
                 self.trace.push(kind);
                 self.events(3);
             }
@@ -181,7 +182,7 @@ pub fn trace(random: &mut Random) -> Vec<u8> {
             }
         }
     }
-    let count = scribe.random.within(0..=9);
+    let count = scribe.random.weighted(&[2, 4, 4, 4, 4, 4, 4, 4, 4, 2, 1, 1, 1]);
     scribe.register(count);
     scribe.open();
     let events = scribe.random.pick(&[5, 50, 150, 300]);

@@ -38,18 +38,17 @@ impl<'a> Cursor<'a> {
         Some(*taken)
     }
 
-    /// The low seven bits of an octet that may have another after it: none if this is the last.
-    pub fn extended(&mut self) -> Result<(u8, Option<()>), Refusal> {
+    /// The low seven bits of an octet, and whether its field goes on after it.
+    pub fn extended(&mut self) -> Result<(u8, bool), Refusal> {
         let octet = self.octet().ok_or(Refusal::Cut)?;
-        let more = (octet & EXTENSION == 0).then_some(());
-        Ok((octet & !EXTENSION, more))
+        Ok((octet & !EXTENSION, octet & EXTENSION == 0))
     }
 
     /// The low seven bits of an octet that has to be the last of its field.
     pub fn last(&mut self) -> Result<u8, Refusal> {
         match self.extended()? {
-            (bits, None) => Ok(bits),
-            (_, Some(())) => Err(Refusal::Extension),
+            (bits, false) => Ok(bits),
+            (_, true) => Err(Refusal::Extension),
         }
     }
 

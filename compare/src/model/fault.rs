@@ -43,7 +43,7 @@ faults! {
     Octet3aEarly "7-before-5" "7 is found before 3a is read"
     AddressLate "9-after-the-address" "9 is found after the address's octets"
     SpareRead "spare-bits-read" "octet 2's spare bits count as instruction"
-    OriginForgotten "1998-as-2000" "a context of 1998 is read with address fields"
+    AddressesAlways "1998-as-2000" "a context of 1998 is read with address fields"
     TwiceByKind "twice-by-kind" "contexts of different kinds are never the same"
     ZeroFill "zero-fill-unchecked" "the octets after an address are not looked at"
     MarkAny "any-mark-is-open" "any mark but 0 counts as open"

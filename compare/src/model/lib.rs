@@ -10,7 +10,7 @@
 //! rules. A call first works out its whole effect as a value and writes only then, so a refusal,
 //! which is an `Err`, cannot have written anything.
 //!
-//! `Faults` are there to show that the comparison can fail; `Model::default()` has none.
+//! A `Fault` is there to show that the comparison can fail; `Model::default()` has none.
 
 mod cursor;
 mod delivery;

@@ -62,7 +62,7 @@ impl Model {
         let mut cursor = Cursor::new(parameter);
         let context = context(&mut cursor)?;
         let mut edition = table.edition(context).ok_or(Refusal::Unregistered)?;
-        if self.broken(Fault::OriginForgotten) {
+        if self.broken(Fault::AddressesAlways) {
             edition = Edition::Of2000;
         }
         let spare = if self.broken(Fault::SpareRead) { 0x7f } else { 0b11 };
@@ -84,9 +84,9 @@ impl Model {
         let (bits, more) = cursor.extended()?;
         let (new, remaining) = (bits & 0x40 != 0, bits & 0x3f);
         if self.broken(Fault::Octet3aEarly) {
-            Refusal::Octet3a.unless(more.is_none() == (new && remaining == 0))?;
+            Refusal::Octet3a.unless(more != (new && remaining == 0))?;
         }
-        let reference = more.map(|()| cursor.last()).transpose()?;
+        let reference = more.then(|| cursor.last()).transpose()?;
         match (new, remaining, reference) {
             (true, 0, None) => Ok((Position::Alone, UNSEGMENTED)),
             (true, 0, Some(_)) | (_, _, None) => Err(Refusal::Octet3a),
@@ -107,7 +107,7 @@ impl Model {
 /// Low seven bits, then the high seven if the first octet is not the last.
 fn context(cursor: &mut Cursor) -> Result<u16, Refusal> {
     let (low, more) = cursor.extended()?;
-    let high = more.map_or(Ok(0), |()| cursor.last())?;
+    let high = if more { cursor.last()? } else { 0 };
     Ok(u16::from(high) << 7 | u16::from(low))
 }
 
