@@ -10,7 +10,8 @@ compare: the proved library against a second implementation of document 01, call
   compare [OPTIONS]
 
   --seed N           seed of the generator (default 1)
-  --calls N          calls to compare (default 1000000); traces and round trips go along with them
+  --calls N          calls to compare (default 1000000); traces and round trips go along with them,
+                     and from 100000 on some short ranges are gone through from end to end
   --replay PATH      the replay program (default ../target/bin/replay beside this crate)
   --show N           prints the input of call N before it is made
   --calls-only       no traces
@@ -107,4 +108,37 @@ fn number(text: &str) -> Result<u64, String> {
 fn fault(name: &str) -> Result<Fault, String> {
     let fault = Fault::ALL.iter().find(|fault| fault.name() == name);
     fault.copied().ok_or(format!("no break is named {name}: see --list-breaks"))
+}
+
+#[cfg(test)]
+mod tests {
+    use super::*;
+
+    fn read(line: &str) -> Result<Arguments, String> {
+        Arguments::read(line.split_whitespace().map(String::from))
+    }
+
+    #[test]
+    fn options() {
+        let arguments = read("--against model --seed 5 --calls 7 --break release-all").unwrap();
+        assert_eq!((arguments.seed, arguments.calls), (5, 7));
+        assert!(matches!(arguments.task, Task::Compare(Some(Fault::ReleaseAll))));
+        assert!(matches!(read("--help").unwrap().task, Task::Help));
+    }
+
+    #[test]
+    fn errors() {
+        for line in ["--sede 5", "--seed", "--seed x", "--break nothing", "--against nobody"] {
+            assert!(read(line).is_err(), "{line}");
+        }
+        assert!(read("--against model --calls-only --traces-only").is_err());
+    }
+
+    #[test]
+    fn names_of_breaks_differ() {
+        let mut names: Vec<&str> = Fault::ALL.iter().map(|fault| fault.name()).collect();
+        names.sort();
+        names.dedup();
+        assert_eq!(names.len(), Fault::ALL.len());
+    }
 }

@@ -4,21 +4,8 @@ use std::fmt;
 
 use crate::cases::Case;
 use crate::input::{Answer, Input, CALLS};
-use crate::tables::RULES;
+use crate::unsound::RULES;
 use model::*;
-
-const LINES: [&str; 10] = [
-    "unsegmented",
-    "1, key open",
-    "1, key not open",
-    "2",
-    "3",
-    "4",
-    "5",
-    "6",
-    "7, delivered",
-    "7, saved",
-];
 
 /// The refusals of each call, in its order.
 const ORDERS: [&[u8]; 6] = [
@@ -34,75 +21,204 @@ const ORDERS: [&[u8]; 6] = [
 /// and a context that is not registered is not one of 1998.
 const APART: [(usize, u8, u8); 2] = [(1, 4, 5), (5, 8, 15)];
 
+const LINES: [&str; 10] = [
+    "unsegmented",
+    "1 (open)",
+    "1 (not open)",
+    "2",
+    "3",
+    "4",
+    "5",
+    "6",
+    "7 (delivered)",
+    "7 (saved)",
+];
+
+/// The refusals that a trace can lead to: its areas and parameters are never too short or long.
+const IN_TRACES: [u8; 11] = [0, 1, 5, 6, 7, 8, 9, 10, 11, 12, 13];
+
+/// Counters that are shown and checked together.
+struct Tally {
+    title: String,
+    names: Vec<String>,
+    met: Vec<u64>,
+    /// Met more seldom than the others.
+    seldom: bool,
+}
+
+impl Tally {
+    fn new<T: ToString>(title: &str, names: impl IntoIterator<Item = T>) -> Tally {
+        let names: Vec<String> = names.into_iter().map(|name| name.to_string()).collect();
+        Tally { title: title.to_string(), met: vec![0; names.len()], names, seldom: false }
+    }
+
+    fn seldom<T: ToString>(title: &str, names: impl IntoIterator<Item = T>) -> Tally {
+        Tally { seldom: true, ..Tally::new(title, names) }
+    }
+
+    fn add(&mut self, index: usize, times: u64) {
+        self.met[index] += times;
+    }
+
+    fn add_named(&mut self, name: &str) {
+        let index = self.names.iter().position(|other| other == name);
+        self.met[index.expect("a name of this tally")] += 1;
+    }
+
+    fn sum(&self) -> u64 {
+        self.met.iter().sum()
+    }
+
+    fn missing(&self, least: u64) -> impl Iterator<Item = String> + '_ {
+        let least = if self.seldom { least.div_ceil(10) } else { least };
+        let counters = self.names.iter().zip(&self.met).filter(move |(_, met)| **met < least);
+        counters.map(move |(name, met)| format!("{}: {name}: {met} of {least}", self.title))
+    }
+}
+
+impl fmt::Display for Tally {
+    fn fmt(&self, f: &mut fmt::Formatter) -> fmt::Result {
+        if self.names.len() > RULES.len() {
+            let rarest = self.met.iter().min().unwrap_or(&0);
+            return writeln!(f, "{}: {} kinds, the rarest {rarest}", self.title, self.met.len());
+        }
+        let counters = self.names.iter().zip(&self.met);
+        let list: Vec<String> = counters.map(|(name, met)| format!("{name}: {met}")).collect();
+        writeln!(f, "{}: {}", self.title, list.join("; "))
+    }
+}
+
 pub struct Coverage {
-    calls: [u64; 6],
-    refusals: [[u64; 21]; 6],
-    pairs: [[[u64; 21]; 21]; 6],
-    lines: [u64; LINES.len()],
-    causes: [u64; 8],
-    rules: [u64; RULES.len()],
-    /// Empty parts, parts of the parameter, parts of the store.
-    parts: [u64; 3],
-    counts: [u64; SEGMENTS + 1],
-    /// Segment calls by length of the parameter.
-    lengths: [u64; 301],
+    calls: Tally,
+    refusals: [Tally; 6],
+    pairs: [Tally; 6],
+    lines: Tally,
+    causes: Tally,
+    rules: Tally,
+    parts: Tally,
+    counts: Tally,
+    lengths: Tally,
+    trace_lines: Tally,
+    trace_ends: Tally,
+    trips: Tally,
+    trip_counts: Tally,
     pub exhaustive: u64,
-    pub traces: u64,
-    pub trace_lines: u64,
-    pub stops: u64,
-    pub trips: [u64; 2],
-    pub trip_segments: [u64; SEGMENTS + 1],
+}
+
+fn refusals(call: usize) -> Tally {
+    let numbers = ORDERS[call].iter().map(|number| number.to_string());
+    let title = format!("refusals of {}", CALLS[call]);
+    Tally::new(&title, std::iter::once("none".to_string()).chain(numbers))
+}
+
+fn pair(first: u8, second: u8) -> String {
+    format!("{first} and {second}")
+}
+
+fn pairs(call: usize) -> Tally {
+    let order = ORDERS[call].iter().enumerate();
+    let pairs = order.flat_map(|(i, first)| {
+        let later = ORDERS[call][i + 1..].iter();
+        later
+            .filter(move |second| !APART.contains(&(call, *first, **second)))
+            .map(move |second| pair(*first, *second))
+    });
+    Tally::seldom(&format!("pairs of refusals of {}", CALLS[call]), pairs)
 }
 
 impl Coverage {
     pub fn new() -> Coverage {
         Coverage {
-            calls: [0; 6],
-            refusals: [[0; 21]; 6],
-            pairs: [[[0; 21]; 21]; 6],
-            lines: [0; LINES.len()],
-            causes: [0; 8],
-            rules: [0; RULES.len()],
-            parts: [0; 3],
-            counts: [0; SEGMENTS + 1],
-            lengths: [0; 301],
+            calls: Tally::new("calls", CALLS),
+            refusals: std::array::from_fn(refusals),
+            pairs: std::array::from_fn(pairs),
+            lines: Tally::new("receiving lines", LINES),
+            causes: Tally::new("causes", 1..=7),
+            rules: Tally::new("unsound tables", RULES),
+            parts: Tally::new("deliveries", ["empty", "of the parameter", "of the store"]),
+            counts: Tally::new("sent, by count of segments", 1..=SEGMENTS),
+            lengths: Tally::seldom("lengths of parameters", (0..=256).chain([257, 300])),
+            trace_lines: Tally::seldom("lines of traces by refusal", IN_TRACES),
+            trace_ends: Tally::seldom("traces", ["to the end", "stopped"]),
+            trips: Tally::new("round trips", ["cut by the model", "cut by the library"]),
+            trip_counts: Tally::new("round trips, by count of segments", 1..=SEGMENTS),
             exhaustive: 0,
-            traces: 0,
-            trace_lines: 0,
-            stops: 0,
-            trips: [0; 2],
-            trip_segments: [0; SEGMENTS + 1],
         }
+    }
+
+    fn of_calls(&self) -> impl Iterator<Item = &Tally> {
+        let rest =
+            [&self.lines, &self.causes, &self.parts, &self.rules, &self.counts, &self.lengths];
+        let calls = std::iter::once(&self.calls).chain(&self.refusals).chain(&self.pairs);
+        calls.chain(rest).chain([&self.trips, &self.trip_counts])
+    }
+
+    fn of_traces(&self) -> impl Iterator<Item = &Tally> {
+        [&self.trace_lines, &self.trace_ends].into_iter()
     }
 
     pub fn calls(&self) -> u64 {
-        self.calls.iter().sum()
+        self.calls.sum()
     }
 
+    pub fn traces(&self) -> u64 {
+        self.trace_ends.sum()
+    }
+
+    /// What was met less often than `least`, of what was tried at all.
+    pub fn missing(&self, least: u64) -> Vec<String> {
+        let calls = self.of_calls().filter(|_| self.calls() > 0);
+        let traces = self.of_traces().filter(|_| self.traces() > 0);
+        calls.chain(traces).flat_map(|tally| tally.missing(least)).collect()
+    }
+}
+
+impl fmt::Display for Coverage {
+    fn fmt(&self, f: &mut fmt::Formatter) -> fmt::Result {
+        if self.calls() > 0 {
+            writeln!(f, "{} calls and {} more from end to end", self.calls(), self.exhaustive)?;
+            self.of_calls()
+                .filter(|tally| !tally.names.is_empty())
+                .try_for_each(|tally| write!(f, "{tally}"))?;
+        }
+        if self.traces() > 0 {
+            writeln!(f, "{} traces with {} lines", self.traces(), self.trace_lines.sum())?;
+            self.of_traces().try_for_each(|tally| write!(f, "{tally}"))?;
+        }
+        Ok(())
+    }
+}
+
+impl Coverage {
     pub fn count(&mut self, case: &Case, answer: &Answer) {
         let call = case.input.call();
-        self.calls[call] += 1;
-        self.refusals[call][usize::from(answer.refusal())] += 1;
+        let number = ORDERS[call].iter().position(|number| *number == answer.refusal());
+        self.calls.add(call, 1);
+        self.refusals[call].add(number.map_or(0, |index| index + 1), 1);
         for (i, first) in case.held.iter().enumerate() {
-            for second in &case.held[i + 1..] {
-                self.pairs[call][usize::from(*first)][usize::from(*second)] += 1;
-            }
+            let later = case.held[i + 1..].iter();
+            later.for_each(|second| self.pairs[call].add_named(&pair(*first, *second)));
         }
         if let Some(rule) = case.rule {
-            self.rules[rule] += 1;
+            self.rules.add(rule, 1);
         }
         if let Input::Segment { parameter, .. } = &case.input {
-            self.lengths[parameter.len()] += 1;
+            self.lengths.add(parameter.len().min(258), 1);
         }
-        match *answer {
-            Answer::Received(ref received, part) => self.received(&case.input, received, part),
+        match answer {
+            Answer::Received(received, part) if received.refusal == 0 => {
+                self.received(&case.input, received);
+                self.part(*part);
+            }
             Answer::Swept(swept) => {
                 let cause = if call == 2 { 6 } else { 7 };
-                self.causes[cause] += u64::from(swept.records);
+                self.causes.add(cause - 1, swept.records.into());
             }
-            Answer::Part(part) => self.part(part),
-            Answer::Sent(sent) => self.counts[usize::from(sent.count)] += 1,
-            Answer::Opened(_) => {}
+            Answer::Part(part) => self.part(*part),
+            Answer::Sent(sent) if sent.refusal == 0 => {
+                self.counts.add(usize::from(sent.count) - 1, 1)
+            }
+            _ => {}
         }
     }
 
@@ -112,142 +228,39 @@ impl Coverage {
             Part { source: 0, .. } => 1,
             _ => 2,
         };
-        self.parts[index] += 1;
+        self.parts.add(index, 1);
     }
 
-    fn received(&mut self, input: &Input, received: &Received, part: Part) {
-        if received.refusal != 0 {
-            return;
-        }
+    fn received(&mut self, input: &Input, received: &Received) {
         let Decision { kind, cause, place, .. } = received.decision;
         let open = |table: &Table| table.places.iter().filter(|place| place.mark == 1).count();
         let grown = input.table().is_some_and(|table| open(table) < open(&received.table));
         let line = match (kind, cause) {
-            (1, _) => {
-                if grown {
-                    4
-                } else {
-                    9
-                }
-            }
-            (2, _) => 0,
-            (3, _) => 8,
-            (_, 4) => {
-                if place < PLACES {
-                    1
-                } else {
-                    2
-                }
-            }
-            (_, 3) => 3,
-            (_, 1) => 5,
-            (_, 2) => 6,
-            _ => 7,
+            (1, _) if grown => "3",
+            (1, _) => "7 (saved)",
+            (2, _) => "unsegmented",
+            (3, _) => "7 (delivered)",
+            (_, 4) if place < PLACES => "1 (open)",
+            (_, 4) => "1 (not open)",
+            (_, 3) => "2",
+            (_, 1) => "4",
+            (_, 2) => "5",
+            _ => "6",
         };
-        self.lines[line] += 1;
-        self.causes[usize::from(cause)] += u64::from(kind == 4);
-        self.part(part);
+        self.lines.add_named(line);
+        if kind == 4 {
+            self.causes.add(usize::from(cause) - 1, 1);
+        }
     }
 
-    /// What was met less often than `least`.
-    pub fn missing(&self, least: u64) -> Vec<String> {
-        let mut missing = Vec::new();
-        let mut check = |met: u64, what: String| {
-            if met < least {
-                missing.push(format!("{what}: {met}"));
-            }
-        };
-        for (call, order) in ORDERS.iter().enumerate() {
-            check(self.refusals[call][0], format!("{} not refused", CALLS[call]));
-            for (i, number) in order.iter().enumerate() {
-                let met = self.refusals[call][usize::from(*number)];
-                check(met, format!("{} refused by {number}", CALLS[call]));
-                for other in
-                    order[i + 1..].iter().filter(|other| !APART.contains(&(call, *number, **other)))
-                {
-                    let met = self.pairs[call][usize::from(*number)][usize::from(*other)];
-                    check(met, format!("{} with {number} and {other} at once", CALLS[call]));
-                }
-            }
-        }
-        for (line, met) in LINES.iter().zip(self.lines) {
-            check(met, format!("line {line}"));
-        }
-        for (cause, met) in self.causes.iter().enumerate().skip(1) {
-            check(*met, format!("cause {cause}"));
-        }
-        for (rule, met) in RULES.iter().zip(self.rules) {
-            check(met, format!("unsound: {rule}"));
-        }
-        for (name, met) in PARTS.iter().zip(self.parts) {
-            check(met, format!("deliveries: {name}"));
-        }
-        for (count, met) in self.counts.iter().enumerate().skip(1) {
-            check(*met, format!("sent as {count} segments"));
-        }
-        for (count, met) in self.trip_segments.iter().enumerate().skip(1) {
-            check(*met, format!("round trips of {count} segments"));
-        }
-        for length in (0..=256).chain([300]) {
-            check(self.lengths[length] * 10, format!("parameters of {length} octets (times 10)"));
-        }
-        missing
+    pub fn count_trace(&mut self, text: &str) {
+        let refusals = text.lines().filter_map(|line| line.split(' ').nth(1));
+        refusals.for_each(|refusal| self.trace_lines.add_named(refusal));
+        self.trace_ends.add(usize::from(text.ends_with("stop\n")), 1);
     }
-}
 
-const PARTS: [&str; 3] = ["empty", "part of the parameter", "part of the store"];
-
-impl fmt::Display for Coverage {
-    fn fmt(&self, f: &mut fmt::Formatter) -> fmt::Result {
-        writeln!(f, "calls: {}", self.calls())?;
-        for (call, order) in ORDERS.iter().enumerate() {
-            write!(
-                f,
-                "  {:9}{:>8}, not refused {}",
-                CALLS[call], self.calls[call], self.refusals[call][0]
-            )?;
-            for number in *order {
-                write!(f, "; {number}: {}", self.refusals[call][usize::from(*number)])?;
-            }
-            writeln!(f)?;
-        }
-        let pairs = self.pairs.iter().flatten().flatten();
-        let kinds = pairs.clone().filter(|met| **met > 0).count();
-        let least = pairs.clone().filter(|met| **met > 0).min().unwrap_or(&0);
-        writeln!(f, "pairs of refusals at once: {kinds}, the rarest {least} times")?;
-        list(f, "receiving lines", &LINES, &self.lines)?;
-        let causes: Vec<String> = (1..8).map(|cause| cause.to_string()).collect();
-        list(f, "causes", &causes, &self.causes[1..])?;
-        list(f, "deliveries", &PARTS, &self.parts)?;
-        list(f, "unsound tables", &RULES, &self.rules)?;
-        let counts: Vec<String> = (1..=SEGMENTS).map(|count| count.to_string()).collect();
-        list(f, "sent, by count of segments", &counts, &self.counts[1..])?;
-        let lengths = self.lengths.iter().filter(|met| **met > 0).count();
-        writeln!(f, "lengths of parameters: {lengths}")?;
-        writeln!(f, "exhaustive: {} calls", self.exhaustive)?;
-        writeln!(
-            f,
-            "traces: {} with {} lines, {} stopped",
-            self.traces, self.trace_lines, self.stops
-        )?;
-        writeln!(
-            f,
-            "round trips: {} cut by the model, {} by the library",
-            self.trips[0], self.trips[1]
-        )?;
-        list(f, "round trips, by count of segments", &counts, &self.trip_segments[1..])
+    pub fn count_trip(&mut self, direction: usize, counts: &[usize]) {
+        self.trips.add(direction, 1);
+        counts.iter().for_each(|count| self.trip_counts.add(count - 1, 1));
     }
-}
-
-fn list(
-    f: &mut fmt::Formatter,
-    title: &str,
-    names: &[impl fmt::Display],
-    met: &[u64],
-) -> fmt::Result {
-    write!(f, "{title}:")?;
-    for (i, (name, met)) in names.iter().zip(met).enumerate() {
-        write!(f, "{} {name}: {met}", if i == 0 { "" } else { ";" })?;
-    }
-    writeln!(f)
 }

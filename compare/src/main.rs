@@ -15,6 +15,7 @@ mod side;
 mod tables;
 mod traces;
 mod trips;
+mod unsound;
 mod wire;
 
 use std::process::ExitCode;
@@ -61,13 +62,9 @@ fn compare(arguments: &Arguments, fault: Option<Fault>) -> bool {
     if let Some(fault) = fault {
         println!("the model is broken: {}", fault.what());
     }
-    let mut run = Run::new(arguments, fault.map_or_else(Model::default, Model::with));
-    if let Err(Found { calls, traces, trips, difference }) = run.go() {
-        println!(
-            "DIFFERENCE after {calls} calls, {traces} traces and {trips} round trips, seed {}:",
-            arguments.seed
-        );
-        print!("{difference}");
+    let mut run = Run::new(arguments, fault.map_or(Model::PLAIN, Model::with));
+    if let Err(Found { by, difference }) = run.go() {
+        println!("DIFFERENCE, seed {}, {by}:\n{difference}", arguments.seed);
         return false;
     }
     print!("{}", run.coverage);
@@ -84,12 +81,7 @@ fn breaks(arguments: &Arguments) -> bool {
     let mut good = true;
     for fault in Fault::ALL {
         match Run::new(arguments, Model::with(*fault)).go() {
-            Err(Found { calls, traces, trips, .. }) => {
-                println!(
-                    "found      {:28} after {calls} calls, {traces} traces, {trips} round trips",
-                    fault.name()
-                );
-            }
+            Err(Found { by, .. }) => println!("found      {:28} by {by}", fault.name()),
             Ok(()) => {
                 println!("NOT FOUND  {:28} ({})", fault.name(), fault.what());
                 good = false;

@@ -16,141 +16,150 @@ use model::{Model, STRETCH};
 /// For every so many calls there is one trace and a few round trips.
 const ROUND: u64 = 1_000;
 const TRIPS: u64 = 5;
+/// A run of so many calls goes through the short ranges too.
+const LONG: u64 = 100_000;
 
 pub struct Run<'a> {
     arguments: &'a Arguments,
     model: Model,
-    other: Box<dyn Side>,
+    other: &'static dyn Side,
     replayer: Replayer,
     pub coverage: Coverage,
 }
 
-/// The first difference, and after how much it was found.
+/// The first difference, what showed it, and what had gone before.
 pub struct Found {
-    pub calls: u64,
-    pub traces: u64,
-    pub trips: u64,
+    pub by: String,
     pub difference: String,
 }
 
 #[cfg(feature = "library")]
-fn library() -> Box<dyn Side> {
-    Box::new(Library)
+fn library() -> &'static dyn Side {
+    &Library
 }
 
 #[cfg(not(feature = "library"))]
-fn library() -> Box<dyn Side> {
+fn library() -> &'static dyn Side {
     unreachable!("the command line was checked")
 }
 
 impl<'a> Run<'a> {
     pub fn new(arguments: &'a Arguments, model: Model) -> Run<'a> {
         let (other, replayer) = match arguments.against.as_str() {
-            "model" => {
-                let plain: Box<dyn Side> = Box::new(Model::default());
-                (plain, Replayer::Model(Model::default()))
-            }
+            "model" => (&Model::PLAIN as &dyn Side, Replayer::Model(Model::PLAIN)),
             _ => (library(), Replayer::Program(arguments.replay.clone())),
         };
         Run { arguments, model, other, replayer, coverage: Coverage::new() }
     }
 
     pub fn go(&mut self) -> Result<(), Found> {
-        self.rounds().map_err(|difference| Found {
-            calls: self.coverage.calls() + 1,
-            traces: self.coverage.traces,
-            trips: self.coverage.trips.iter().sum(),
-            difference,
-        })
-    }
-
-    fn rounds(&mut self) -> Result<(), String> {
         let model = self.model;
-        let mut noise = Random::new(!self.arguments.seed);
-        let mut world = World::new(Random::new(self.arguments.seed));
-        let mut trace_random = Random::new(self.arguments.seed ^ 0x7261_6365);
-        let coverage = &mut self.coverage;
-        let mut pair = Pair::new([&model, &*self.other], &mut noise);
-        for round in 0..self.arguments.calls.div_ceil(ROUND) {
-            if !self.arguments.only_traces {
-                let calls = ROUND.min(self.arguments.calls - round * ROUND);
-                (0..calls).try_for_each(|_| {
-                    call(self.arguments, &mut pair, &mut world, &mut noise, coverage)
-                })?;
-                (round * TRIPS..(round + 1) * TRIPS)
-                    .try_for_each(|number| trip(&pair, &mut noise, coverage, number))?;
+        let Arguments { seed, calls, only_traces, only_calls, .. } = *self.arguments;
+        let mut noise = Random::new(!seed);
+        let mut world = World::new(Random::new(seed));
+        let mut traces = Random::new(seed ^ 0x7261_6365);
+        let mut pair = Pair::new([&model, self.other], &mut noise);
+        for round in 0..calls.div_ceil(ROUND) {
+            if !only_traces {
+                for _ in 0..ROUND.min(calls - round * ROUND) {
+                    let called = self.call(&mut pair, &mut world, &mut noise);
+                    called.map_err(|text| self.found("call", self.coverage.calls(), text))?;
+                }
+                for number in round * TRIPS..(round + 1) * TRIPS {
+                    let made = self.trip(&pair, &mut noise, number);
+                    made.map_err(|text| self.found("round trip", number, text))?;
+                }
             }
-            if !self.arguments.only_calls {
-                trace(&model, &self.replayer, &mut trace_random, coverage)?;
+            if !only_calls {
+                let replayed = self.trace(&mut traces);
+                replayed.map_err(|text| self.found("trace", self.coverage.traces(), text))?;
             }
         }
-        if !self.arguments.only_traces {
+        if !only_traces && calls >= LONG {
             let mut exhaustive = Exhaustive { pair: &mut pair, random: &mut noise, calls: 0 };
             let done = exhaustive.go();
-            coverage.exhaustive = exhaustive.calls;
-            done?;
+            self.coverage.exhaustive = exhaustive.calls;
+            done.map_err(|text| self.found("call from end to end", exhaustive.calls - 1, text))?;
         }
         Ok(())
     }
 
+    fn found(&self, what: &str, before: u64, difference: String) -> Found {
+        let by = match what {
+            "call" => format!("call {}", before + 1),
+            _ => format!("{what} {}, after {} calls", before + 1, self.coverage.calls()),
+        };
+        Found { by, difference }
+    }
+
     /// What was met too seldom: in a million calls, fewer than 100 times.
     pub fn missing(&self) -> Vec<String> {
-        match self.arguments.only_traces {
-            true => vec![],
-            false => self.coverage.missing((self.arguments.calls / 10_000).min(100)),
+        self.coverage.missing((self.arguments.calls / 10_000).min(100))
+    }
+
+    fn call(
+        &mut self,
+        pair: &mut Pair,
+        world: &mut World,
+        noise: &mut Random,
+    ) -> Result<(), String> {
+        let case = world.case();
+        if self.arguments.show == Some(self.coverage.calls() + 1) {
+            println!("{}", case.input);
+        }
+        let answer = pair.run(&case.input, noise)?;
+        if !case.expects(answer.refusal()) {
+            let (held, number) = (&case.held, answer.refusal());
+            return Err(format!("{}made for {held:?}, but both answer {number}\n", case.input));
+        }
+        self.coverage.count(&case, &answer);
+        world.absorb(&case, &answer);
+        Ok(())
+    }
+
+    /// Every length of data comes up in a million calls, each way.
+    fn trip(&mut self, pair: &Pair, random: &mut Random, number: u64) -> Result<(), String> {
+        let [model, other] = pair.sides;
+        let direction = (number % 2) as usize;
+        let (sender, receiver) = if direction == 0 { (model, other) } else { (other, model) };
+        let length = number as usize / 2 % (STRETCH + 1);
+        let counts = Ends { sender, receiver }.go(random, length)?;
+        self.coverage.count_trip(direction, &counts);
+        Ok(())
+    }
+
+    fn trace(&mut self, random: &mut Random) -> Result<(), String> {
+        let trace = traces::trace(random);
+        let text = traces::compare(&self.model, &self.replayer, &trace)?;
+        self.coverage.count_trace(&text);
+        Ok(())
+    }
+}
+
+#[cfg(test)]
+mod tests {
+    use super::*;
+    use model::Fault;
+
+    /// A plain model on the other side, so that nothing is compared with the library here.
+    fn arguments() -> Arguments {
+        let words = ["--against", "model", "--calls", "20000", "--seed", "7"];
+        Arguments::read(words.map(String::from).into_iter()).expect("a good command line")
+    }
+
+    #[test]
+    fn every_break_is_found() {
+        let arguments = arguments();
+        for fault in Fault::ALL {
+            assert!(Run::new(&arguments, Model::with(*fault)).go().is_err(), "{}", fault.name());
         }
     }
-}
 
-fn call(
-    arguments: &Arguments,
-    pair: &mut Pair,
-    world: &mut World,
-    noise: &mut Random,
-    coverage: &mut Coverage,
-) -> Result<(), String> {
-    let case = world.case();
-    if arguments.show == Some(coverage.calls() + 1) {
-        println!("{}", case.input);
+    #[test]
+    fn nothing_else_is_found() {
+        let mut arguments = arguments();
+        arguments.calls = 5_000;
+        let mut run = Run::new(&arguments, Model::PLAIN);
+        assert!(run.go().is_ok_and(|()| run.coverage.calls() == 5_000));
     }
-    let answer = pair.run(&case.input, noise)?;
-    if !case.expects(answer.refusal()) {
-        let (held, refusal) = (&case.held, answer.refusal());
-        return Err(format!("{}made for {held:?}, but both refuse with {refusal}\n", case.input));
-    }
-    coverage.count(&case, &answer);
-    world.absorb(&case, &answer);
-    Ok(())
-}
-
-/// Every length of data comes up twice in a million calls, once each way.
-fn trip(
-    pair: &Pair,
-    random: &mut Random,
-    coverage: &mut Coverage,
-    number: u64,
-) -> Result<(), String> {
-    let [model, other] = pair.sides;
-    let direction = (number % 2) as usize;
-    let (sender, receiver) = if direction == 0 { (model, other) } else { (other, model) };
-    let length = number as usize / 2 % (STRETCH + 1);
-    for count in (Ends { sender, receiver }).go(random, length)? {
-        coverage.trip_segments[count] += 1;
-    }
-    coverage.trips[direction] += 1;
-    Ok(())
-}
-
-fn trace(
-    model: &Model,
-    replayer: &Replayer,
-    random: &mut Random,
-    coverage: &mut Coverage,
-) -> Result<(), String> {
-    let trace = traces::trace(random);
-    let text = traces::compare(model, replayer, &trace)?;
-    coverage.traces += 1;
-    coverage.trace_lines += text.lines().count() as u64;
-    coverage.stops += u64::from(text.ends_with("stop\n"));
-    Ok(())
 }

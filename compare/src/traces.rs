@@ -5,6 +5,7 @@ use std::path::PathBuf;
 use std::process::{Command, Stdio};
 use std::thread;
 
+use crate::cases::damage_wire;
 use crate::input::hex;
 use crate::random::Random;
 use crate::scene;
@@ -54,14 +55,14 @@ fn run(path: &PathBuf, trace: &[u8]) -> Result<String, String> {
 /// A trace as it is written, with the state that its events lead to so that they mean something.
 struct Scribe<'a> {
     random: &'a mut Random,
+    /// Begins more sequences than it ends.
+    crowded: bool,
     trace: Vec<u8>,
     registry: Vec<u8>,
     table: Table,
     store: Vec<u8>,
     report: Vec<u8>,
 }
-
-const PLAIN: fn() -> Model = Model::default;
 
 impl Scribe<'_> {
     fn register(&mut self, count: usize) {
@@ -86,13 +87,22 @@ impl Scribe<'_> {
         self.trace.push(32);
         self.trace.extend(timer.to_be_bytes());
         self.trace.extend(clock.to_be_bytes());
-        self.table = PLAIN().opening(&self.registry, timer, clock).table;
+        self.table = Model::PLAIN.opening(&self.registry, timer, clock).table;
     }
 
     fn segment(&mut self) {
-        let scene = scene::scene(self.random, &self.table);
-        let mut parameter = scene.wire.octets();
+        let begun = match self.crowded && !self.random.one_in(8) {
+            true => scene::begin(self.random, &self.table),
+            false => None,
+        };
+        let mut scene = begun.unwrap_or_else(|| scene::scene(self.random, &self.table));
         if self.random.one_in(15) {
+            let refusal = self.random.within(6..=9) as u8;
+            damage_wire(self.random, &self.table, &mut scene.wire, &[refusal]);
+            scene.wire.fit();
+        }
+        let mut parameter = scene.wire.octets();
+        if self.random.one_in(20) {
             let length = self.random.within(0..=255);
             parameter = self.random.octets(length);
         }
@@ -103,7 +113,7 @@ impl Scribe<'_> {
         let rest = self.random.octets(PARAMETER - parameter.len());
         self.trace.extend(rest);
         let (store, report) = (&mut self.store, &mut self.report);
-        let got = PLAIN().segment(self.table, store, report, scene.association, &parameter);
+        let got = Model::PLAIN.segment(self.table, store, report, scene.association, &parameter);
         self.table = got.table;
     }
 
@@ -117,19 +127,20 @@ impl Scribe<'_> {
         let time = self.table.clock.wrapping_add(step);
         self.trace.push(34);
         self.trace.extend(time.to_be_bytes());
-        self.table = PLAIN().clock(self.table, &mut self.report, time).table;
+        self.table = Model::PLAIN.clock(self.table, &mut self.report, time).table;
     }
 
     fn release(&mut self) {
         let association = tables::association(self.random);
         self.trace.push(35);
         self.trace.extend(association.to_be_bytes());
-        self.table = PLAIN().release(self.table, &mut self.report, association).table;
+        self.table = Model::PLAIN.release(self.table, &mut self.report, association).table;
     }
 
     fn events(&mut self, count: usize) {
         for _ in 0..count {
-            match self.random.weighted(&[1, 80, 12, 4]) {
+            match self.random.weighted(if self.crowded { &[1, 100, 4, 1] } else { &[1, 80, 12, 4] })
+            {
                 0 => self.open(),
                 1 => self.segment(),
                 2 => self.clock(),
@@ -171,7 +182,8 @@ impl Scribe<'_> {
 pub fn trace(random: &mut Random) -> Vec<u8> {
     let (table, store, report) = (Table::default(), vec![0; STORE], vec![0; SWEEP]);
     let (trace, registry) = (Vec::new(), Vec::new());
-    let mut scribe = Scribe { random, trace, registry, table, store, report };
+    let crowded = random.one_in(4);
+    let mut scribe = Scribe { random, crowded, trace, registry, table, store, report };
     if scribe.random.one_in(8) {
         // Before the first open: without 32, so that registry records may still follow.
         for _ in 0..3 {

@@ -67,3 +67,23 @@ impl Wire {
         octets
     }
 }
+
+#[cfg(test)]
+mod tests {
+    use super::*;
+
+    #[test]
+    fn examples_of_document_01() {
+        let first = Wire { context: 3, instruction: 1, new: true, remaining: 1, ..Wire::default() };
+        let m3 = Wire { reference: Some(5), information: vec![0xAA], ..first.clone() };
+        assert_eq!(m3.octets(), [0x83, 0x81, 0x41, 0x85, 0xAA]);
+        let alone = Wire { context: 3, long: true, new: true, ..Wire::default() };
+        let m12 = Wire { information: vec![0xAA], ..alone };
+        assert_eq!(m12.octets(), [0x03, 0x80, 0x80, 0xC0, 0xAA]);
+        let addresses = Some([vec![0, 7], vec![]]);
+        let m11 = Wire { context: 4, instruction: 0, addresses, ..m3 };
+        assert_eq!(m11.octets(), [0x84, 0x80, 0x41, 0x85, 2, 0, 7, 0, 0xAA]);
+        let m9 = Wire { open: Some(Field::Octet2), ..first };
+        assert_eq!(m9.octets(), [0x83, 0x01, 0xC1]);
+    }
+}

@@ -10,7 +10,7 @@
 //! rules. A call first works out its whole effect as a value and writes only then, so a refusal,
 //! which is an `Err`, cannot have written anything.
 //!
-//! A `Fault` is there to show that the comparison can fail; `Model::default()` has none.
+//! A `Fault` is there to show that the comparison can fail; `Model::PLAIN` has none.
 
 mod cursor;
 mod delivery;
@@ -33,12 +33,14 @@ pub use refusal::Refusal;
 pub use shapes::*;
 
 /// The calls of document 01 are its methods.
-#[derive(Clone, Copy, Debug, Default)]
+#[derive(Clone, Copy, Debug)]
 pub struct Model {
     fault: Option<Fault>,
 }
 
 impl Model {
+    pub const PLAIN: Model = Model { fault: None };
+
     /// A model that is wrong in one way.
     pub fn with(fault: Fault) -> Model {
         Model { fault: Some(fault) }

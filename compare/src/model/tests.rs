@@ -3,7 +3,7 @@
 use crate::*;
 
 const REGISTRY: [u8; 6] = [1, 0, 3, 2, 0, 4];
-const MODEL: Model = Model { fault: None };
+const MODEL: Model = Model::PLAIN;
 
 /// A host: a table with its lent areas, and what the last call answered.
 struct Host {

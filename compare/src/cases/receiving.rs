@@ -1,0 +1,109 @@
+//! Cases of segments.
+
+use super::{choose, Case, World};
+use crate::input::Input;
+use crate::random::Random;
+use crate::scene::{self, Scene};
+use crate::tables;
+use crate::wire::{Field, Wire};
+use model::*;
+
+impl World {
+    pub(super) fn segment(&mut self) -> Case {
+        let mut held = choose(&mut self.random, &[1, 2, 3, 4, 5, 6, 7, 8, 9, 10]);
+        if held.contains(&4) {
+            // A parameter over 255 cannot end inside its fields.
+            held.retain(|number| *number != 5);
+        }
+        let (table, rule) = self.table(&held);
+        let random = &mut self.random;
+        let Scene { association, mut wire } = fitting(random, &table, &mut held);
+        damage_wire(random, &table, &mut wire, &held);
+        wire.fit();
+        let mut parameter = wire.octets();
+        if held.contains(&5) {
+            parameter.truncate(random.below(wire.header().len()));
+        }
+        if held.contains(&4) {
+            let length = random.pick(&[256, 256, 257, 300]);
+            parameter.resize(length, random.octet());
+        }
+        if held.is_empty() && random.one_in(10) {
+            noise(random, &mut parameter);
+        }
+        let store = match held.contains(&2) {
+            true => random.pick(&[32_767, 32_767, 2_048, 0]),
+            false => random.pick(&[32_768, 32_768, 32_769, 36_864]),
+        };
+        let report = match held.contains(&3) {
+            true => random.pick(&[31, 31, 1, 0]),
+            false => random.pick(&[32, 32, 33, 512]),
+        };
+        Case { input: Input::Segment { table, store, report, association, parameter }, held, rule }
+    }
+}
+
+/// A scene on which what has to hold can hold; what cannot is taken off the list.
+fn fitting(random: &mut Random, table: &Table, held: &mut Vec<u8>) -> Scene {
+    for _ in 0..12 {
+        let scene = match held.contains(&10) {
+            true => scene::begin(random, table),
+            false => Some(scene::scene(random, table)),
+        };
+        match scene {
+            Some(scene) if !held.contains(&9) || scene.wire.addresses.is_some() => return scene,
+            _ => {}
+        }
+    }
+    held.retain(|number| !matches!(number, 9 | 10));
+    scene::scene(random, table)
+}
+
+/// Refusals 6 to 9.
+pub fn damage_wire(random: &mut Random, table: &Table, wire: &mut Wire, held: &[u8]) {
+    if held.contains(&8) {
+        let contexts = std::iter::repeat_with(|| tables::unregistered(random, table));
+        wire.context = contexts.take(100).find(|context| *context < 1 << 14).unwrap_or(0);
+    }
+    if held.contains(&7) {
+        let reference = tables::reference(random);
+        (wire.new, wire.remaining, wire.reference) = match random.below(3) {
+            0 => (true, 0, Some(reference)),
+            1 => (true, random.within(1..=63) as u8, None),
+            _ => (false, random.below(64) as u8, None),
+        };
+    }
+    if held.contains(&6) {
+        let mut fields = vec![Field::Octet2];
+        if wire.long || wire.context > 127 {
+            fields.push(Field::Octet1a);
+        }
+        if wire.reference.is_some() {
+            fields.push(Field::Octet3a);
+        }
+        wire.open = Some(random.pick(&fields));
+    }
+    if held.contains(&9) {
+        wire.length = Some((random.below(2), random.pick(&[21, 21, 22, 64, 128, 255])));
+    }
+}
+
+/// Damage of which nothing is expected.
+fn noise(random: &mut Random, parameter: &mut Vec<u8>) {
+    match random.below(4) {
+        0 => {
+            let length = random.within(0..=255);
+            *parameter = random.octets(length);
+        }
+        1 => parameter.truncate(random.within(0..=parameter.len())),
+        2 => {
+            let length = random.within(0..=255);
+            parameter.resize(length, 0);
+        }
+        _ => {
+            let end = parameter.len().min(8);
+            let at = random.below(end.max(1));
+            parameter.iter_mut().skip(at).take(1).for_each(|octet| *octet ^= 1 << random.below(8));
+        }
+    }
+}
