@@ -32,7 +32,7 @@ faults! {
     // Of our own.
     RestartBeforeRemaining "line-2-before-1" "line 2 is tried before line 1"
     RemainingAtMost "remaining-at-most" "line 5 lets segments be missed"
-    LongByOne "2049-delivered" "line 6 lets 2,049 octets pass"
+    LongByOne "2048-lost" "line 6 loses 2,048 octets already"
     FullRefusesRestart "full-refuses-restart" "a full table refuses line 2 too"
     HighestFree "highest-free-place" "line 3 takes the highest free place"
     FreeMarkOnly "free-clears-mark-only" "a freed place keeps its other fields"
@@ -47,7 +47,7 @@ faults! {
     TwiceByKind "twice-by-kind" "contexts of different kinds are never the same"
     ZeroFill "zero-fill-unchecked" "the octets after an address are not looked at"
     MarkAny "any-mark-is-open" "any mark but 0 counts as open"
-    SumWraps "segments-sum-wraps" "segments plus remaining is taken modulo 256"
+    SumEleven "segments-sum-of-11" "segments plus remaining may be 11"
     ClockHalf "half-step-accepted" "a clock step of 2^31 is accepted"
     TimerLate "timer-late" "a sequence of age T is kept"
     ReleaseAll "release-all" "a release ends the sequences of every association"

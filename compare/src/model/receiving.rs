@@ -103,7 +103,7 @@ impl Model {
     /// Lines 5 to 7. Remaining is at most 9 here.
     fn later_line(&self, table: &Table, index: usize, remaining: u8, length: usize) -> Line {
         let place = &table.places[index];
-        let most = if self.broken(Fault::LongByOne) { STRETCH + 1 } else { STRETCH };
+        let most = if self.broken(Fault::LongByOne) { STRETCH - 1 } else { STRETCH };
         let in_turn = match self.fault {
             Some(Fault::RemainingAtMost) => remaining < place.remaining,
             _ => remaining + 1 == place.remaining,
@@ -219,7 +219,7 @@ impl Model {
         Place {
             octets: place.octets + segment.information.len() as u16,
             segments: place.segments + 1,
-            remaining: place.remaining - 1,
+            remaining: segment.position.remaining(),
             start,
             ..*place
         }

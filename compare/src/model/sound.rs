@@ -49,15 +49,13 @@ impl Model {
         let Some(fill) = place.key.address.get(usize::from(place.key.length)..) else {
             return false;
         };
-        let mut sum = u16::from(place.segments) + u16::from(place.remaining);
-        if self.broken(Fault::SumWraps) {
-            sum &= 0xff;
-        }
+        let sum = u16::from(place.segments) + u16::from(place.remaining);
+        let most = if self.broken(Fault::SumEleven) { 11 } else { 10 };
         place.key.reference <= 127
             && place.instruction <= 3
             && (1..=9).contains(&place.remaining)
             && place.segments >= 1
-            && sum <= 10
+            && sum <= most
             && usize::from(place.octets) <= STRETCH
             && (self.broken(Fault::ZeroFill) || fill.iter().all(|octet| *octet == 0))
             && (edition == Edition::Of2000 || place.key.length == 0)
