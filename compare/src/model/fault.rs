@@ -44,7 +44,7 @@ faults! {
     AddressLate "9-after-the-address" "9 is found after the address's octets"
     SpareRead "spare-bits-read" "octet 2's spare bits count as instruction"
     AddressesAlways "1998-as-2000" "a context of 1998 is read with address fields"
-    TwiceByKind "twice-by-kind" "contexts of different kinds are never the same"
+    TwiceByKind "twice-by-kind" "opening takes a context listed twice with different kinds"
     ZeroFill "zero-fill-unchecked" "the octets after an address are not looked at"
     MarkAny "any-mark-is-open" "any mark but 0 counts as open"
     SumEleven "segments-sum-of-11" "segments plus remaining may be 11"

@@ -1,5 +1,6 @@
 //! Opening: a registry's octets into a table with no open place.
 
+use crate::sound::listed;
 use crate::{Entry, Fault, Model, Opened, Refusal, Table, CONTEXTS, ENTRIES, TIMERS};
 
 impl Model {
@@ -30,7 +31,11 @@ impl Model {
         for (i, record) in records.enumerate() {
             let &[kind @ (1 | 2), high, low] = record else { return Err(Refusal::Registry) };
             let entry = Entry { kind, context: u16::from_be_bytes([high, low]) };
-            let good = CONTEXTS.contains(&entry.context) && !self.listed(&entries[..i], &entry);
+            let twice = match self.fault {
+                Some(Fault::TwiceByKind) => entries[..i].contains(&entry),
+                _ => listed(&entries[..i], entry.context),
+            };
+            let good = CONTEXTS.contains(&entry.context) && !twice;
             Refusal::Registry.unless(good)?;
             entries[i] = entry;
         }

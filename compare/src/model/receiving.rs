@@ -124,6 +124,15 @@ impl Model {
         table.places.iter().position(|place| place.is_open() && self.same(&place.key, key))
     }
 
+    fn same(&self, a: &Key, b: &Key) -> bool {
+        let rest = |key: &Key| (key.association, key.context, key.reference);
+        match self.fault {
+            Some(Fault::AddressNumber) => rest(a) == rest(b) && number(a).eq(number(b)),
+            Some(Fault::AddressNoLength) => rest(a) == rest(b) && a.address == b.address,
+            _ => a == b,
+        }
+    }
+
     fn free(&self, table: &Table) -> Result<usize, Refusal> {
         let mut places = table.places.iter();
         let free = match self.fault {
@@ -275,4 +284,9 @@ fn first(table: &Table, segment: &Segment) -> Place {
         remaining: segment.position.remaining(),
         segments: 1,
     }
+}
+
+/// For `Fault::AddressNumber`: the address's octets without its leading zeros.
+fn number(key: &Key) -> impl Iterator<Item = &u8> {
+    key.address[..key.length.into()].iter().skip_while(|octet| **octet == 0)
 }

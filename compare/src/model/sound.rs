@@ -1,7 +1,7 @@
-//! Document 01's "Sound means", and when two keys are the same.
+//! Document 01's "Sound means".
 
 use crate::segment::Edition;
-use crate::{Entry, Fault, Key, Model, Place, Refusal, Table, ADDRESS, CONTEXTS, STRETCH, TIMERS};
+use crate::{Entry, Fault, Model, Place, Refusal, Table, CONTEXTS, STRETCH, TIMERS};
 
 pub const OPEN: u8 = 1;
 
@@ -14,31 +14,15 @@ impl Place {
 impl Model {
     pub(crate) fn sound(&self, table: &Table) -> Result<(), Refusal> {
         let holds = TIMERS.contains(&table.timer)
-            && self.registry_sound(&table.registry)
+            && registry_sound(&table.registry)
             && table.places.iter().all(|place| self.place_sound(table, place))
-            && self.keys_differ(&table.places);
+            && keys_differ(&table.places);
         Refusal::Unsound.unless(holds)
-    }
-
-    fn registry_sound(&self, registry: &[Entry]) -> bool {
-        registry.iter().enumerate().all(|(i, entry)| match entry.kind {
-            0 => entry.context == 0,
-            1 | 2 => CONTEXTS.contains(&entry.context) && !self.listed(&registry[..i], entry),
-            _ => false,
-        })
-    }
-
-    /// Contexts are told apart by their number alone, whatever the kinds.
-    pub(crate) fn listed(&self, earlier: &[Entry], entry: &Entry) -> bool {
-        let by_kind = self.broken(Fault::TwiceByKind);
-        earlier
-            .iter()
-            .any(|other| other.context == entry.context && (!by_kind || other.kind == entry.kind))
     }
 
     fn place_sound(&self, table: &Table, place: &Place) -> bool {
         match place.mark {
-            0 => self.broken(Fault::FreeMarkOnly) || *place == Place::default(),
+            0 => *place == Place::default(),
             OPEN => self.open_sound(table, place),
             _ => self.broken(Fault::MarkAny) && self.open_sound(table, place),
         }
@@ -59,40 +43,35 @@ impl Model {
             && usize::from(place.octets) <= STRETCH
             && (self.broken(Fault::ZeroFill) || fill.iter().all(|octet| *octet == 0))
             && (edition == Edition::Of2000 || place.key.length == 0)
-            && self.age(table.clock, place.start) < table.timer
-    }
-
-    fn keys_differ(&self, places: &[Place]) -> bool {
-        let open = |place: &&Place| place.is_open();
-        let mut later = places.iter();
-        while let Some(place) = later.by_ref().find(open) {
-            if later.clone().filter(open).any(|other| self.same(&place.key, &other.key)) {
-                return false;
-            }
-        }
-        true
-    }
-
-    pub(crate) fn same(&self, a: &Key, b: &Key) -> bool {
-        let rest = |key: &Key| (key.association, key.context, key.reference);
-        match self.fault {
-            Some(Fault::AddressNumber) => rest(a) == rest(b) && number(a).eq(number(b)),
-            Some(Fault::AddressNoLength) => rest(a) == rest(b) && a.address == b.address,
-            _ => a == b,
-        }
-    }
-
-    /// The clock runs round, so ages and steps are taken modulo 2^32.
-    pub(crate) fn age(&self, time: u32, start: u32) -> u32 {
-        match self.fault {
-            Some(Fault::AgePlain) => time.saturating_sub(start),
-            _ => time.wrapping_sub(start),
-        }
+            && age(table.clock, place.start) < table.timer
     }
 }
 
-/// For `Fault::AddressNumber`: the address's octets without its leading zeros.
-fn number(key: &Key) -> impl Iterator<Item = &u8> {
-    let length = usize::from(key.length).min(ADDRESS);
-    key.address[..length].iter().skip_while(|octet| **octet == 0)
+fn registry_sound(registry: &[Entry]) -> bool {
+    registry.iter().enumerate().all(|(i, entry)| match entry.kind {
+        0 => entry.context == 0,
+        1 | 2 => CONTEXTS.contains(&entry.context) && !listed(&registry[..i], entry.context),
+        _ => false,
+    })
+}
+
+/// Contexts are told apart by their number alone, whatever the kinds.
+pub fn listed(earlier: &[Entry], context: u16) -> bool {
+    earlier.iter().any(|other| other.context == context)
+}
+
+fn keys_differ(places: &[Place]) -> bool {
+    let open = |place: &&Place| place.is_open();
+    let mut later = places.iter();
+    while let Some(place) = later.by_ref().find(open) {
+        if later.clone().filter(open).any(|other| place.key == other.key) {
+            return false;
+        }
+    }
+    true
+}
+
+/// The clock runs round, so ages and steps are taken modulo 2^32.
+pub fn age(time: u32, start: u32) -> u32 {
+    time.wrapping_sub(start)
 }

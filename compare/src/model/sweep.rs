@@ -1,22 +1,29 @@
 //! The two calls that end many sequences at once: the clock and a release.
 
 use crate::record::{Covered, Record};
+use crate::sound::age;
 use crate::{Fault, Model, Place, Refusal, Swept, Table, RECORD, SWEEP};
 
 const HALF: u32 = 1 << 31;
 
 impl Model {
     pub fn clock(&self, table: Table, report: &mut [u8], time: u32) -> Swept {
-        let step = time.wrapping_sub(table.clock);
+        let step = age(time, table.clock);
         let ahead = step < HALF || self.broken(Fault::ClockHalf) && step == HALF;
         let ready = self.ready(&table, report).and_then(|()| Refusal::ClockStep.unless(ahead));
-        let timer =
-            if self.broken(Fault::TimerLate) { table.timer.saturating_add(1) } else { table.timer };
         match ready {
             Err(refusal) => refused(table, refusal),
             Ok(()) => self.sweep(Table { clock: time, ..table }, report, 6, |place| {
-                self.age(time, place.start) >= timer
+                self.expired(time, place.start, table.timer)
             }),
+        }
+    }
+
+    fn expired(&self, time: u32, start: u32, timer: u32) -> bool {
+        match self.fault {
+            Some(Fault::AgePlain) => time.saturating_sub(start) >= timer,
+            Some(Fault::TimerLate) => age(time, start) > timer,
+            _ => age(time, start) >= timer,
         }
     }
 
