@@ -20,7 +20,7 @@ use Rattle.rules.proofs.Answers.{unopenedBy}
 use Rattle.rules.proofs.Lists.{left}
 
 -- no record is cut where the length is a multiple of 3
-whole-is : (s : List ℕ) → not (isCut s) ≡ eqb (length s % 3) 0
+pub whole-is : (s : List ℕ) → not (isCut s) ≡ eqb (length s % 3) 0
 whole-is [] = refl
 whole-is (k ∷ []) = refl
 whole-is (k ∷ x ∷ []) = refl

@@ -9,16 +9,18 @@ use rules::Reference;
 use rules::Remaining;
 use rules::Table;
 ghost use mathlib.Core.Path.{_≡_};
-ghost use mathlib.Core.List.{_∷_};
+ghost use mathlib.Core.List.{_∷_, map};
 ghost use Prim.Native.Nat.{_+_, _≤_};
+ghost use lib.Dec.{ltb};
 ghost use lib.ListN.{length, take, drop};
-ghost use Rattle.rules.specs.General.{every, everyTwo};
+ghost use Rattle.rules.specs.General.{if_then_else_, every, everyTwo};
 ghost use Rattle.rules.specs.Numbers.{age};
 ghost use Rattle.rules.specs.Registry.{isEntry, entriesOf};
 ghost use Rattle.rules.specs.Opening.{noEntry, emptyTable, unopened};
 ghost use Rattle.rules.specs.Promises.{OfOpening};
 ghost use Rattle.rules.specs.Places.{sameOctets, sameKey, holds, placeOf, lowestFree, freePlace};
 ghost use Rattle.table.specs.Inside.{Inside};
+ghost use Rattle.table.specs.Digest.{digest, digestsApart};
 ghost use Rattle.rules.specs.Soundness.{isZero, addressSound, openSound, freeSound, placeSound, placesApart, sound};
 
 // The new time less the old, modulo 2^32: an age, and a step of the clock.
@@ -58,18 +60,28 @@ pub fn same_key(a: Key, b: Key) -> bool
     false
 }
 
-// Whether an address is zero from index at on.
+// An octet where it stands at an index or behind it; before it 0.
+fn counted(x: u8, at: usize, i: usize) -> u32
+    ensures { λ r. ⌜ r ≡ (if ltb i at then 0 else x) ⌝ }
+    ensures { λ r. ⌜ r ≤ 255 ⌝ }
+{
+    if i < at {
+        return 0;
+    }
+    x as u32
+}
+
+// Whether an address is zero from index at on. Its octets are summed: with no way out of the loop it takes a few instructions in all.
 fn zero_from(a: [u8; 20], at: usize) -> bool
     ensures { λ r. ⌜ r ≡ every isZero (drop at a) ⌝ }
 {
-    let mut i = at;
+    let mut sum = 0;
+    let mut i = 0;
     while i < 20 {
-        if a[i] != 0 {
-            return false;
-        }
+        sum += counted(a[i], at, i);
         i += 1;
     }
-    true
+    sum == 0
 }
 
 // Whether an open place's address is to 20, zero filled, and empty for 1998.
@@ -132,21 +144,6 @@ fn place_sound(registry: [Entry; 8], timer: u32, clock: u32, p: Place) -> bool
     false
 }
 
-// Whether every place is sound.
-fn all_sound(places: [Place; 16], registry: [Entry; 8], timer: u32, clock: u32) -> bool
-    ensures { λ r. ⌜ r ≡ every (placeSound registry timer clock) places ⌝ }
-{
-    let mut i = 0;
-    while i < 16 {
-        let p = places[i];
-        if !place_sound(registry, timer, clock, p) {
-            return false;
-        }
-        i += 1;
-    }
-    true
-}
-
 // Whether two places are not open with one key.
 fn are_apart(p: Place, q: Place) -> bool
     ensures { λ r. ⌜ r ≡ placesApart p q ⌝ }
@@ -175,8 +172,75 @@ fn apart_from(places: [Place; 16], at: usize, p: Place) -> bool
     true
 }
 
+pub struct Seen {
+    pub digests: [u64; 16],
+    pub sound: bool,
+}
+
+// What tells most open places apart, as one number; 0 where the place is not open.
+fn digest_of(p: Place) -> u64
+    ensures { λ r. ⌜ r ≡ digest p ⌝ }
+{
+    if p.mark != 1 {
+        return 0;
+    }
+    let key = (p.key.association as u64) * 65536 + (p.key.context.0 as u64);
+    let rest = (p.key.reference.0 as u64) * 256 + (p.key.length as u64);
+    key * 65536 + rest + 1
+}
+
+// All places in one go: whether every one is sound, and their digests.
+fn look_over(places: [Place; 16], registry: [Entry; 8], timer: u32, clock: u32) -> Seen
+    ensures { λ r. ⌜ r .sound ≡ every (placeSound registry timer clock) places ⌝ }
+    ensures { λ r. ⌜ r .digests ≡ map digest places ⌝ }
+{
+    let mut digests = [0; 16];
+    let mut sound = true;
+    let mut i = 0;
+    while i < 16 {
+        let p = places[i];
+        digests[i] = digest_of(p);
+        sound = sound & place_sound(registry, timer, clock, p);
+        i += 1;
+    }
+    Seen { digests, sound }
+}
+
+// Whether a number is none of those from index at on.
+fn differs_from(digests: [u64; 16], at: usize, d: u64) -> bool
+    requires { ⌜ 1 ≤ d ⌝ }
+    ensures { λ r. ⌜ r ≡ every (digestsApart d) (drop at digests) ⌝ }
+{
+    let mut i = at;
+    while i < 16 {
+        if digests[i] == d {
+            return false;
+        }
+        i += 1;
+    }
+    true
+}
+
+// Whether no two of them that are not 0 are the same.
+fn all_differ(digests: [u64; 16]) -> bool
+    ensures { λ r. ⌜ r ≡ everyTwo digestsApart digests ⌝ }
+{
+    let mut i = 0;
+    while i < 16 {
+        let d = digests[i];
+        i += 1;
+        if d == 0 {
+            continue;
+        }
+        if !differs_from(digests, i, d) {
+            return false;
+        }
+    }
+    true
+}
+
 // Whether no two open places share a key.
-fn all_apart(places: [Place; 16]) -> bool
+fn keys_apart(places: [Place; 16]) -> bool
     ensures { λ r. ⌜ r ≡ everyTwo placesApart places ⌝ }
 {
     let mut i = 0;
@@ -190,7 +254,7 @@ fn all_apart(places: [Place; 16]) -> bool
     true
 }
 
-// Whether a table is sound.
+// Whether a table is sound. Where the digests of open places differ their keys do, and no key need be looked at.
 pub fn is_sound(t: Table) -> bool
     ensures { λ r. ⌜ r ≡ sound t ⌝ }
 {
@@ -198,9 +262,13 @@ pub fn is_sound(t: Table) -> bool
     let registry = t.registry;
     let places = t.places;
     let listed = registry::is_sound(registry);
-    let each = all_sound(places, registry, t.timer, t.clock);
-    let apart = all_apart(places);
-    timed & listed & each & apart
+    let seen = look_over(places, registry, t.timer, t.clock);
+    let each = timed & listed & seen.sound;
+    let digests = seen.digests;
+    if all_differ(digests) {
+        return each;
+    }
+    each & keys_apart(places)
 }
 
 // Whether a place is open with a key.

@@ -1,31 +1,33 @@
-use Prim.Native.Nat.{_-_}
-use mathlib.Core.Path.{_≡_, refl}
-use borrow.Author.Tests.{eq-eqb, ne-eqb}
+use Prim.Native.Nat.{_-_, _*_, _≤_}
+use mathlib.Core.Path.{_≡_}
+use mathlib.Core.Bool.{_&&_}
+use lib.Dec.{eqb}
 use lib.ListN.{drop}
+use native.Mathlib.Omega.{arith}
+use borrow.Author.Needs.{needs}
 use Rattle.rules.specs.General.{every}
 use Rattle.rules.specs.Soundness.{isZero}
-use Rattle.rules.proofs.Lists.{every-fails, every-goes, every-ends}
-use native.Mathlib.Omega.{arith}
+use Rattle.table.proofs.Zeros.{rest, zeros-start, zeros-more, zeros-end}
 use Rattle.table.proofs.zero_from.Statement.{statement}
 use Rattle.table.proofs.zero_from.Tie as tie
 
 abbrev Inv-loop : tie.InvT-loop
-Inv-loop at a i₀ i = every isZero (drop at a) ≡ every isZero (drop i a)
+Inv-loop at a sum₀ i₀ sum i = (every isZero (drop at a) ≡ (eqb sum 0 && every isZero (rest a at i))) × (sum ≤ 255 * i)
 
 abbrev μ-loop : tie.MeasureT-loop
-μ-loop at a i₀ i = 20 - i
+μ-loop at a sum₀ i₀ sum i = 20 - i
 
 loop-holds : tie.Need-loop-holds Inv-loop μ-loop
-loop-holds c = refl
+loop-holds c = (zeros-start (c .args .t1) (c .args .at), omega arith)
 
-array-read-if1 : tie.Need-array-read-if1 Inv-loop μ-loop
-array-read-if1 c = omega arith
+array-read-counted : tie.Need-array-read-counted Inv-loop μ-loop
+array-read-counted c = omega arith
 
-returns : tie.Need-returns Inv-loop μ-loop
-returns c =
-    let l = c .before .before in
-    let a = l .before .args in
-    every-fails isZero (a .t1) 0 (l .loop .i) _ (l .loop .inv) (omega arith) (ne-eqb _ _ (c .if1 .taken))
+counted-requires : tie.Need-counted-requires Inv-loop μ-loop
+counted-requires c κs = search needs
+
+add-sum : tie.Need-add-sum Inv-loop μ-loop
+add-sum c = omega (arith, c .counted .ensures .1)
 
 add-i : tie.Need-add-i Inv-loop μ-loop
 add-i c = omega arith
@@ -37,13 +39,13 @@ loop-again : tie.Need-loop-again Inv-loop μ-loop
 loop-again c =
     let l = c .before .before in
     let a = l .before .args in
-    every-goes isZero (a .t1) 0 (l .loop .i) _ (l .loop .inv) (omega arith) (eq-eqb _ _ (c .if1 .left))
+    (zeros-more (a .t1) (a .at) _ (l .loop .sum) (l .loop .i) _ (l .loop .inv .0) (omega arith) (c .counted .ensures .0), omega (arith, c .counted .ensures .1, l .loop .inv .1))
 
-returns-2 : tie.Need-returns-2 Inv-loop μ-loop
-returns-2 c =
+returns : tie.Need-returns Inv-loop μ-loop
+returns c =
     let l = c .before in
     let a = l .before .args in
-    every-ends isZero (a .t1) 0 (l .loop .i) _ (l .loop .inv) (omega arith)
+    zeros-end (a .t1) (a .at) _ (l .loop .sum) (l .loop .i) (l .loop .inv .0) (omega arith)
 
 pub zero-from-spec : {M : Type 1} → statement M
 zero-from-spec =
@@ -52,9 +54,10 @@ zero-from-spec =
     Inv-loop
     μ-loop
     loop-holds
-    array-read-if1
-    returns
+    array-read-counted
+    counted-requires
+    add-sum
     add-i
     loop-less
     loop-again
-    returns-2)
+    returns)

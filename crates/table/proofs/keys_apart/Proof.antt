@@ -8,8 +8,8 @@ use Rattle.rules.specs.Places.{noPlace}
 use Rattle.rules.proofs.Lists.{two-fail, two-go, two-end}
 use native.Mathlib.Omega.{arith}
 use borrow.Author.Needs.{needs}
-use Rattle.table.proofs.all_apart.Statement.{statement}
-use Rattle.table.proofs.all_apart.Tie as tie
+use Rattle.table.proofs.keys_apart.Statement.{statement}
+use Rattle.table.proofs.keys_apart.Tie as tie
 
 abbrev Inv-loop : tie.InvT-loop
 Inv-loop places i₀ i = everyTwo placesApart places ≡ everyTwo placesApart (drop i places)
@@ -53,8 +53,8 @@ returns-2 c =
     let l = c .before in
     two-end placesApart (l .before .args .t1) noPlace (l .loop .i) _ (l .loop .inv) (omega arith)
 
-pub all-apart-spec : {M : Type 1} → statement M
-all-apart-spec =
+pub keys-apart-spec : {M : Type 1} → statement M
+keys-apart-spec =
     tie.close
     (tie.spec
     Inv-loop

@@ -1,0 +1,107 @@
+// The replay program: a trace on standard input, its lines on standard output. What is read and what is printed of it is trace's; this reads, writes and keeps count.
+use libc::STDIN_FILENO;
+use libc::STDOUT_FILENO;
+use trace::Progress;
+use trace::Replay;
+ghost use Prim.Native.Nat.{_≤_};
+ghost use lib.ListN.{length};
+
+// A replay, with so many octets read and not yet used, and whether it goes on.
+struct Session {
+    replay: Replay,
+    have: usize,
+    going: bool,
+}
+
+fn over(replay: Replay) -> Session
+    ensures { λ r. ⌜ r .have ≤ 0 ⌝ }
+{
+    Session {
+        replay,
+        have: 0,
+        going: false,
+    }
+}
+
+// Prints the first n octets of an area, and answers whether that went well.
+fn print(out: &[u8], n: usize) -> bool
+    requires { ⌜ n ≤ length (now out) ⌝ }
+{
+    io::write_all(STDOUT_FILENO, &out[..n])
+}
+
+// Reads more, past the octets that wait for the rest of their record. Where the input has ended, so does the replay.
+fn refill(replay: Replay, input: &mut [u8], have: usize, out: &mut [u8]) -> Session
+    requires { ⌜ (have ≤ length (now input)) × (5 ≤ length (now out)) ⌝ }
+    ensures { λ r. ⌜ r .have ≤ length (now (input .entry)) ⌝ }
+{
+    let got = libc::read(STDIN_FILENO, &mut input[have..]);
+    let n = io::count(got, &input[have..]);
+    if n == 0 {
+        let last = trace::ending(have, out);
+        print(out, last);
+        return over(replay);
+    }
+    Session {
+        replay,
+        have: have + n,
+        going: true,
+    }
+}
+
+// After a block: its lines are printed, and what is left moves to the front. Where nothing was used, that is no whole record, and more is read.
+fn go_on(t: Progress, input: &mut [u8], have: usize, out: &mut [u8]) -> Session
+    requires { ⌜ (t .used ≤ have) × (have ≤ length (now input)) × (t .written ≤ length (now out)) × (5 ≤ length (now out)) ⌝ }
+    ensures { λ r. ⌜ r .have ≤ length (now (input .entry)) ⌝ }
+{
+    let replay = t.replay;
+    let used = t.used;
+    let going = print(out, t.written) & !t.ended;
+    if !going {
+        return over(replay);
+    }
+    let left = trace::forward(input, used, have);
+    if used == 0 {
+        return refill(replay, input, left, out);
+    }
+    Session {
+        replay,
+        have: left,
+        going: true,
+    }
+}
+
+// A block of the octets that are there.
+fn step(
+    held: Replay,
+    store: &mut [u8],
+    report: &mut [u8],
+    input: &mut [u8],
+    have: usize,
+    out: &mut [u8],
+) -> Session
+    requires { ⌜ (have ≤ length (now input)) × (5 ≤ length (now out)) ⌝ }
+    ensures { λ r. ⌜ r .have ≤ length (now (input .entry)) ⌝ }
+{
+    let t = trace::block(held, store, report, &input[..have], out);
+    go_on(t, input, have, out)
+}
+
+fn main() {
+    let mut store = [0u8; 32768];
+    let mut report = [0u8; 512];
+    let mut input = [0u8; 65536];
+    let mut out = [0u8; 65536];
+    let mut replay = trace::beginning();
+    let mut have = 0;
+    let mut turns = u64::MAX;
+    while turns > 0 {
+        let next = step(replay, &mut store, &mut report, &mut input, have, &mut out);
+        if !next.going {
+            return;
+        }
+        replay = next.replay;
+        have = next.have;
+        turns -= 1;
+    }
+}

@@ -1,0 +1,10 @@
+pub mod Reading
+pub mod Registering
+pub mod Happening
+pub mod Fitting
+pub mod Turning
+pub mod Moving
+pub mod Running
+pub mod Items
+pub mod Keeping
+pub mod Whole

@@ -1,0 +1,25 @@
+use Prim.Native.Nat.{ℕ}
+use mathlib.Core.Path.{ap, _∙_}
+use mathlib.Core.List.{List}
+use Rattle.rules.specs.Opening.{opening}
+use Rattle.trace.specs.Turns.{answerOpened}
+use borrow.Author.Needs.{needs}
+use Rattle.trace.proofs.open.Statement.{statement}
+use Rattle.trace.proofs.open.Tie as tie
+
+slice-aggregate-stretch : tie.Need-slice-aggregate-stretch
+slice-aggregate-stretch c = search needs
+
+stretch-requires : tie.Need-stretch-requires
+stretch-requires c κs = search needs
+
+opening-requires : tie.Need-opening-requires
+opening-requires c κs = search needs
+
+returns : tie.Need-returns
+returns c =
+    let a = c .before .before .before .before .before .args in
+    ap answerOpened (c .before .opening .ensures .answered ∙ ap (λ (l : List ℕ). opening l (a .timer) (a .clock)) (c .before .before .stretch .ensures))
+
+pub open-spec : {M : Type 1} → statement M
+open-spec = tie.close (tie.spec slice-aggregate-stretch stretch-requires opening-requires returns)

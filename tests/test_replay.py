@@ -1,0 +1,233 @@
+#!/usr/bin/env python3
+"""The replay program on traces whose whole output is known, and on garbage.
+
+    python3 tests/test_replay.py            REPLAY is the program; without it, target/bin/replay
+    python3 tests/test_replay.py Garbage    one class of tests; SEED and RUNS set the garbage
+"""
+
+import os
+import random
+import re
+import subprocess
+import sys
+import unittest
+
+HERE = os.path.dirname(os.path.abspath(__file__))
+REPLAY = os.environ.get("REPLAY", os.path.join(HERE, "..", "target", "bin", "replay"))
+SEED = int(os.environ.get("SEED", "765"))
+RUNS = int(os.environ.get("RUNS", "4000"))
+
+BODY = {1: 2, 2: 2, 32: 8, 33: 258, 34: 4, 35: 2}
+NAME = {32: "open", 33: "segment", 34: "clock", 35: "release"}
+LINE = re.compile(r"(open|segment|clock|release) \d+ \d+ \d+ \d+")
+
+
+def replay(octets):
+    done = subprocess.run([REPLAY], input=octets, stdout=subprocess.PIPE, stderr=subprocess.PIPE, timeout=60)
+    assert done.returncode == 0, "exit status %d on %s" % (done.returncode, octets.hex())
+    assert done.stderr == b"", "on standard error: %r" % done.stderr
+    return done.stdout.decode("ascii")
+
+
+def context(number, kind=1):
+    return bytes([kind]) + number.to_bytes(2, "big")
+
+
+def opening(timer=100, clock=0):
+    return bytes([32]) + timer.to_bytes(4, "big") + clock.to_bytes(4, "big")
+
+
+def segment(text, association=9, past=b""):
+    octets = bytes.fromhex(text)
+    return bytes([33]) + association.to_bytes(2, "big") + bytes([len(octets)]) + (octets + past).ljust(255, b"\0")
+
+
+def clock(time):
+    return bytes([34]) + time.to_bytes(4, "big")
+
+
+def release(association=9):
+    return bytes([35]) + association.to_bytes(2, "big")
+
+
+PAPER = context(3) + context(4, 2)
+
+
+class Cases(unittest.TestCase):
+    def prints(self, octets, *lines):
+        self.assertEqual(replay(octets), "".join(line + "\n" for line in lines))
+
+    def from_open(self, octets, *lines):
+        """Registry, T and clock of the paper's examples, then these records."""
+        self.prints(PAPER + opening() + octets, "open 0 0 0 0", *lines)
+
+    def test_the_papers_own(self):
+        self.prints(context(3) + opening() + segment("83814185AA") + segment("83800085BB") + release(),
+                    "open 0 0 0 0", "segment 0 0 0 0", "segment 0 1 2 0", "release 0 0 0 0")
+
+    def test_empty_input(self):
+        self.prints(b"")
+
+    def test_registry_alone_prints_nothing(self):
+        self.prints(PAPER)
+
+    def test_events_before_open(self):
+        self.prints(segment("8380C0") + clock(5) + release() + context(3) + opening() + segment("8380C0AA"),
+                    "segment 1 0 0 0", "clock 1 0 0 0", "release 1 0 0 0", "open 0 0 0 0", "segment 0 1 1 0")
+
+    def test_refusals_of_reading(self):
+        for text, number in (("", 5), ("83", 5), ("8380", 5), ("838040", 5), ("848041", 5), ("8480418502AA", 5), ("05", 5),
+                             ("8300", 6), ("0505", 6), ("83804005", 6),
+                             ("83804085", 7), ("8380C1", 7), ("838080", 7), ("8480408515", 7), ("8480C1", 7),
+                             ("85", 8), ("0580", 8), ("80", 8), ("0080", 8),
+                             ("8480418515", 9), ("848041850015", 9)):
+            with self.subTest(text):
+                self.from_open(segment(text), "segment %d 0 0 0" % number)
+
+    def test_refusals_of_opening(self):
+        good = context(3)
+        for registry, timer, number in ((good, 0, 12), (good, 1000001, 12), (good, 1000000, 0), (good, 1, 0), (b"", 100, 0),
+                                        (context(0), 100, 11), (context(16384), 100, 11), (context(16383), 100, 0),
+                                        (good + context(3, 2), 100, 11), (good + good, 0, 12)):
+            with self.subTest(registry=registry.hex(), timer=timer):
+                self.prints(registry + opening(timer), "open %d 0 0 0" % number)
+
+    def test_nine_registry_records(self):
+        nine = b"".join(context(number) for number in range(1, 10))
+        self.prints(nine + opening() + opening(0) + segment("8180C0"), "open 11 0 0 0", "open 12 0 0 0", "segment 1 0 0 0")
+        self.prints(nine[:24] + opening() + segment("8880C0"), "open 0 0 0 0", "segment 0 1 0 0")
+        self.prints(nine * 40 + opening(), "open 11 0 0 0")
+
+    def test_no_registry_record(self):
+        self.prints(opening() + segment("8380C0"), "open 0 0 0 0", "segment 8 0 0 0")
+
+    def test_registry_after_open(self):
+        self.from_open(context(5) + release(), "stop")
+        self.prints(context(3) + opening(0) + context(5), "open 12 0 0 0", "stop")
+
+    def test_unknown_kinds(self):
+        for kind in [0, *range(3, 32), *range(36, 256)]:
+            with self.subTest(kind):
+                self.from_open(bytes([kind]) + bytes(300), "stop")
+        self.prints(b"\0", "stop")
+
+    def test_input_that_ends_inside_a_record(self):
+        for kind, length in BODY.items():
+            for there in (0, 1, length - 1):
+                with self.subTest(kind=kind, there=there):
+                    self.from_open(bytes([kind]) + bytes(there), "stop")
+
+    def test_refused_open_after_a_good_one(self):
+        self.from_open(segment("83804185AA") + opening(0) + segment("83800085BB") + opening() + segment("83800085BB"),
+                       "segment 0 0 0 0", "open 12 0 0 0", "segment 1 0 0 0", "open 0 0 0 0", "segment 0 1 0 1")
+
+    def test_receiving_lines(self):
+        first, last = segment("83814185AA"), segment("83800085BB")
+        self.from_open(segment("8380C0AABB"), "segment 0 1 2 0")                                    # unsegmented
+        self.from_open(segment("83804A85AA"), "segment 0 1 0 1")                                    # line 1, none open
+        self.from_open(first + segment("83804A85AA"), "segment 0 0 0 0", "segment 0 1 0 2")         # line 1, open
+        self.from_open(first + first + last, "segment 0 0 0 0", "segment 0 1 0 1", "segment 0 1 2 0")  # line 2
+        self.from_open(segment("83804985"), "segment 0 0 0 0")                                      # line 3
+        self.from_open(last, "segment 0 1 0 1")                                                     # line 4
+        self.from_open(segment("83804285AA") + last, "segment 0 0 0 0", "segment 0 1 0 2")          # line 5
+        self.from_open(first + last, "segment 0 0 0 0", "segment 0 1 2 0")                          # line 7
+
+    def test_joined_2048_and_2049(self):
+        for size, line in ((2048, "segment 0 1 2048 0"), (2049, "segment 0 1 0 2049")):
+            octets, lines = b"", []
+            for k in range(9):
+                octets += segment("8380%02X85" % (73 if k == 0 else 9 - k) + "AA" * 227)
+                lines.append("segment 0 0 0 0")
+            octets += segment("83800085" + "BB" * (size - 9 * 227))
+            self.from_open(octets, *lines, line)
+
+    def test_timer(self):
+        saved = segment("83804185AA")
+        self.from_open(saved + clock(99) + clock(100) + clock(100),
+                       "segment 0 0 0 0", "clock 0 0 0 0", "clock 0 1 0 1", "clock 0 0 0 0")
+        self.prints(context(3) + opening(11, 4294967290) + saved + clock(4) + clock(5) + clock(4),
+                    "open 0 0 0 0", "segment 0 0 0 0", "clock 0 0 0 0", "clock 0 1 0 1", "clock 13 0 0 0")
+        self.prints(context(3) + opening(100, 4294967290) + clock(5) + clock(4),
+                    "open 0 0 0 0", "clock 0 0 0 0", "clock 13 0 0 0")
+        self.from_open(clock(2 ** 31 - 1) + clock(2 ** 32 - 1) + clock(0),
+                       "clock 0 0 0 0", "clock 13 0 0 0", "clock 13 0 0 0")
+
+    def test_seventeen_sequences(self):
+        octets = b"".join(segment("838041%02XAA" % (128 + k)) for k in range(17))
+        lines = ["segment 0 0 0 0"] * 16 + ["segment 10 0 0 0"]
+        self.from_open(octets + clock(100) + segment("83804190AA"), *lines, "clock 0 16 0 16", "segment 0 0 0 0")
+        self.from_open(octets + release(8) + release(9), *lines, "release 0 0 0 0", "release 0 16 0 16")
+
+    def test_origins_apart(self):
+        self.from_open(segment("8480418502000700AA") + segment("848041850107" + "00BB") + segment("8480008502000700CC") + segment("848000850107" + "00DDEE"),
+                       "segment 0 0 0 0", "segment 0 0 0 0", "segment 0 1 2 0", "segment 0 1 3 0")
+
+    def test_octets_past_the_length_do_not_count(self):
+        self.from_open(segment("8380C0AA", past=b"\xbb" * 200), "segment 0 1 1 0")
+
+    def test_longer_than_any_block(self):
+        once = segment("83814185AA") + segment("83800085BB") + release()
+        self.from_open(once * 3000, *["segment 0 0 0 0", "segment 0 1 2 0", "release 0 0 0 0"] * 3000)
+
+    def test_more_lines_than_any_block(self):
+        self.from_open(release() * 60000, *["release 0 0 0 0"] * 60000)
+
+
+def expected_names(octets):
+    """The names that the lines begin with, from the records' kinds and lengths alone."""
+    names, at, begun = [], 0, False
+    while at < len(octets):
+        kind = octets[at]
+        end = at + 1 + BODY.get(kind, 0)
+        if kind not in BODY or end > len(octets) or (kind < 32 and begun):
+            return names + ["stop"]
+        if kind >= 32:
+            names.append(NAME[kind])
+        begun = begun or kind == 32
+        at = end
+    return names
+
+
+def some_record(chance):
+    kind = chance.choice([1, 2, 32, 33, 33, 33, 33, 34, 35])
+    if kind < 3:
+        return context(chance.choice([3, 4, 5, 0, 20000]), kind)
+    if kind == 32:
+        return opening(chance.choice([100, 100, 1, 0]), chance.choice([0, 4294967290]))
+    if kind == 34:
+        return clock(chance.choice([0, 5, 99, 100, 101, 4294967290, chance.randrange(2 ** 32)]))
+    if kind == 35:
+        return release(chance.choice([9, 10]))
+    head = chance.choice(["8380", "8481", "0380", "83"]) + "%02X%02X" % (chance.randrange(256), 128 + chance.randrange(4))
+    return segment(head + bytes(chance.randrange(256) for _ in range(chance.randrange(30))).hex(), chance.choice([9, 10]))
+
+
+def damaged(chance):
+    octets = bytearray(b"".join(some_record(chance) for _ in range(chance.randrange(1, 12))))
+    for _ in range(chance.randrange(3)):
+        octets[chance.randrange(len(octets))] = chance.randrange(256)
+    return bytes(octets[:chance.randrange(len(octets) + 1)] if chance.random() < 0.3 else octets)
+
+
+class Garbage(unittest.TestCase):
+    def holds(self, octets):
+        lines = replay(octets).splitlines()
+        self.assertEqual([line.split(" ")[0] for line in lines], expected_names(octets), octets.hex())
+        for line in lines:
+            self.assertTrue(line == "stop" or LINE.fullmatch(line), line)
+
+    def test_random_octets(self):
+        chance = random.Random(SEED)
+        for _ in range(RUNS // 4):
+            self.holds(bytes(chance.randrange(256) for _ in range(chance.randrange(40))))
+
+    def test_damaged_traces(self):
+        chance = random.Random(SEED + 1)
+        for _ in range(RUNS - RUNS // 4):
+            self.holds(damaged(chance))
+
+
+if __name__ == "__main__":
+    if not os.access(REPLAY, os.X_OK):
+        sys.exit("tests/test_replay.py: no replay program at %s: build it, or set REPLAY" % REPLAY)
+    unittest.main()
