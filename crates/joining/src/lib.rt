@@ -69,8 +69,9 @@ fn arrive(
     let from = f.information;
     let octets = parameter::tail(s, from);
     let places = t.places;
-    let place = table::place_of(places, key);
-    let room = table::lowest_free(places);
+    let found = table::search_for(places, key);
+    let place = found.place;
+    let room = found.room;
     let p = lines::place_at(places, place);
     let heading = f.heading;
     let remaining = p.remaining;

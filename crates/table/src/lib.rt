@@ -21,6 +21,7 @@ ghost use Rattle.rules.specs.Promises.{OfOpening};
 ghost use Rattle.rules.specs.Places.{sameOctets, sameKey, holds, placeOf, lowestFree, freePlace};
 ghost use Rattle.table.specs.Inside.{Inside};
 ghost use Rattle.table.specs.Digest.{digest, digestsApart};
+ghost use Rattle.table.specs.Seeking.{soonerOf, foundAt};
 ghost use Rattle.rules.specs.Soundness.{isZero, addressSound, openSound, freeSound, placeSound, placesApart, sound};
 
 // The new time less the old, modulo 2^32: an age, and a step of the clock.
@@ -271,6 +272,12 @@ pub fn is_sound(t: Table) -> bool
     each & keys_apart(places)
 }
 
+// Which place has a key, and which is free.
+pub struct Search {
+    pub place: Found,
+    pub room: Found,
+}
+
 // Whether a place is open with a key.
 pub fn has_key(p: Place, k: Key) -> bool
     ensures { λ r. ⌜ r ≡ holds k p ⌝ }
@@ -282,20 +289,49 @@ pub fn has_key(p: Place, k: Key) -> bool
     false
 }
 
-// The place that is open with a key.
-pub fn place_of(places: [Place; 16], k: Key) -> Found
-    ensures { λ r. ⌜ r ≡ placeOf k places ⌝ }
-    ensures { λ r. ⌜ Inside r ⌝ }
+// The first of the places looked at that passed, so far: found, or the one at i if it does. 16 is none.
+fn sooner(found: usize, passes: bool, i: usize) -> usize
+    requires { ⌜ (found ≤ 16) × (i ≤ 16) ⌝ }
+    ensures { λ r. ⌜ r ≡ soonerOf found passes i ⌝ }
+    ensures { λ r. ⌜ r ≤ 16 ⌝ }
 {
+    if found != 16 {
+        return found;
+    }
+    if passes {
+        return i;
+    }
+    16
+}
+
+// A place by its number; 16 is none.
+fn numbered(i: usize) -> Found
+    ensures { λ r. ⌜ r ≡ foundAt i ⌝ }
+{
+    if i == 16 {
+        return Found::Nothing;
+    }
+    Found::At(i)
+}
+
+// The place that is open with a key, and the lowest free one: both in one go over the places.
+pub fn search_for(places: [Place; 16], k: Key) -> Search
+    ensures { λ r. ⌜ (r .place ≡ placeOf k places) × (r .room ≡ lowestFree places) ⌝ }
+    ensures { λ r. ⌜ Inside (r .place) × Inside (r .room) ⌝ }
+{
+    let mut place = 16;
+    let mut room = 16;
     let mut i = 0;
     while i < 16 {
         let p = places[i];
-        if has_key(p, k) {
-            return Found::At(i);
-        }
+        place = sooner(place, has_key(p, k), i);
+        room = sooner(room, p.mark == 0, i);
         i += 1;
     }
-    Found::Nothing
+    Search {
+        place: numbered(place),
+        room: numbered(room),
+    }
 }
 
 // The lowest free place.

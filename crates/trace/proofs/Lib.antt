@@ -6,5 +6,3 @@ pub mod Turning
 pub mod Moving
 pub mod Running
 pub mod Items
-pub mod Keeping
-pub mod Whole

@@ -17,12 +17,12 @@ use Rattle.trace.specs.declared.Replay.{Replay}
 use Rattle.trace.specs.declared.Progress.{Progress}
 use Rattle.trace.proofs.Turning.{turned-none}
 
-abbrev isOver : Turned → Bool
+abbrev pub isOver : Turned → Bool
 isOver t = t .ended || eqb (t .used) 0
 
-or-false : (a b : Bool) → (a || b) ≡ false → b ≡ false
-or-false true b e = cc
-or-false false b e = e
+pub or-false : (a b : Bool) → (a || b) ≡ false → (a ≡ false) × (b ≡ false)
+or-false true b e = (e, cc)
+or-false false b e = (refl, e)
 
 -- the turns one by one
 module _ (room : ℕ) (held : Replay) (store report input : List ℕ) where
@@ -138,7 +138,7 @@ module _ {want : Turned} {input out₀ store report out : List ℕ} {replay : Re
         })
 
     some : (answer .ended || eqb (answer .used) 0) ≡ false → answer .used ≡ 0 → ⊥
-    some e = eqb-false (answer .used) 0 (or-false (answer .ended) (eqb (answer .used) 0) e)
+    some e = eqb-false (answer .used) 0 (or-false (answer .ended) (eqb (answer .used) 0) e .1)
 
     pub less-left : (answer .ended || eqb (answer .used) 0) ≡ false → length input - (used + answer .used) < length input - used
     less-left e = let s = some e in omega (arith, used-within)

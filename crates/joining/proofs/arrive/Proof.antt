@@ -13,14 +13,14 @@ use Rattle.joining.proofs.arrive.Statement.{statement}
 use Rattle.joining.proofs.arrive.Tie as tie
 
 -- the line is the rule's
-line-is : (c : tie.After-line-of) → c .line-of .result ≡ lineOf (isAt (c .before .before .before .before .before .before .place-of .result)) (c .before .before .before .before .place-at .result .remaining .0) (c .before .before .before .before .place-at .result .octets) (c .before .before .before .before .before .before .before .before .before .before .before .before .before .args .f .heading) (length (now (c .before .before .before .before .before .before .before .before .tail .result)))
+line-is : (c : tie.After-line-of) → c .line-of .result ≡ lineOf (isAt (c .before .before .before .before .before .search-for .result .place)) (c .before .before .before .before .place-at .result .remaining .0) (c .before .before .before .before .place-at .result .octets) (c .before .before .before .before .before .before .before .before .before .before .before .before .args .f .heading) (length (now (c .before .before .before .before .before .before .before .tail .result)))
 line-is c = c .line-of .ensures .0 ∙ rw (c .before .is-at .ensures)
 
 -- the information is short
-info-short : (c : tie.After-is-at) → length (now (c .before .before .before .before .before .before .before .tail .result)) ≤ 255
+info-short : (c : tie.After-is-at) → length (now (c .before .before .before .before .before .before .tail .result)) ≤ 255
 info-short c =
-    let s = c .before .before .before .before .before .before .before .before .before .before .before .before in
-    let e = ap length (c .before .before .before .before .before .before .before .tail .ensures) in
+    let s = c .before .before .before .before .before .before .before .before .before .before .before in
+    let e = ap length (c .before .before .before .before .before .before .tail .ensures) in
     let d = length-drop (s .args .f .information) (now (s .args .s)) in
     omega (arith, e, d, s .pre .1 .1 .0)
 
@@ -30,11 +30,8 @@ key-of-requires c κs = search needs
 tail-requires : tie.Need-tail-requires
 tail-requires c κs = search needs
 
-place-of-requires : tie.Need-place-of-requires
-place-of-requires c κs = search needs
-
-lowest-free-requires : tie.Need-lowest-free-requires
-lowest-free-requires c κs = search needs
+search-for-requires : tie.Need-search-for-requires
+search-for-requires c κs = search needs
 
 place-at-requires : tie.Need-place-at-requires
 place-at-requires c κs = search needs
@@ -57,25 +54,25 @@ refused-requires c κs = search needs
 returns : tie.Need-returns
 returns c =
     let l = c .before .before .before .before in
-    let s = l .before .before .before .before .before .before .before .before .before .before .before .before .before in
+    let s = l .before .before .before .before .before .before .before .before .before .before .before .before in
     leaves-as
-    (is-full (s .args .t) (now (s .args .store)) (now (s .args .report)) (s .args .association) (now (s .args .s)) (s .args .f) _ _ _ _ _ _ (l .before .before .before .before .before .before .before .before .before .key-of .ensures) (l .before .before .before .before .before .before .before .before .tail .ensures) (l .before .before .before .before .before .before .place-of .ensures .0) (l .before .before .before .before .before .lowest-free .ensures .0) (l .before .before .before .before .place-at .ensures) (line-is l) (rw (c .before .before .before .starts .ensures, c .before .before .is-at2 .ensures) at (c .before .if1 .taken)))
+    (is-full (s .args .t) (now (s .args .store)) (now (s .args .report)) (s .args .association) (now (s .args .s)) (s .args .f) _ _ _ _ _ _ (l .before .before .before .before .before .before .before .before .key-of .ensures) (l .before .before .before .before .before .before .before .tail .ensures) (l .before .before .before .before .before .search-for .ensures .0 .0) (l .before .before .before .before .before .search-for .ensures .0 .1) (l .before .before .before .before .place-at .ensures) (line-is l) (rw (c .before .before .before .starts .ensures, c .before .before .is-at2 .ensures) at (c .before .if1 .taken)))
     (record { answered = c .refused .ensures; stored = refl; reported = refl })
 
 carry-out-requires : tie.Need-carry-out-requires
 carry-out-requires c κs =
     let i = c .before .before in
     let l = i .before .before .before in
-    let s = l .before .before .before .before .before .before .before .before .before .before .before .before .before in
-    let h = rw (← l .before .before .before .before .before .before .place-of .ensures .0, ← l .before .before .before .before .place-at .ensures) at (held (s .args .t) (l .before .before .before .before .before .before .before .before .before .key-of .result) (s .pre .0)) in
+    let s = l .before .before .before .before .before .before .before .before .before .before .before .before in
+    let h = rw (← l .before .before .before .before .before .search-for .ensures .0 .0, ← l .before .before .before .before .place-at .ensures) at (held (s .args .t) (l .before .before .before .before .before .before .before .before .key-of .result) (s .pre .0)) in
     let full = rw (i .before .before .starts .ensures, i .before .is-at2 .ensures) at (i .if1 .left) in (
       record {
         enough = s .pre .1 .0;
         short = info-short (l .before);
         held = h .octets;
         counted = h .segments;
-        inPlace = l .before .before .before .before .before .before .place-of .ensures .1;
-        inRoom = l .before .before .before .before .before .lowest-free .ensures .1;
+        inPlace = l .before .before .before .before .before .search-for .ensures .1 .0;
+        inRoom = l .before .before .before .before .before .search-for .ensures .1 .1;
       },
       (rw (l .before .is-at .ensures) at (l .line-of .ensures .1), λ e. not-false _ (simp e at full)),
     )
@@ -91,9 +88,9 @@ returns-2 c =
     let k = c .before .before .before .before in
     let i = k .before .before .before in
     let l = i .before .before .before in
-    let s = l .before .before .before .before .before .before .before .before .before .before .before .before .before in
+    let s = l .before .before .before .before .before .before .before .before .before .before .before .before in
     leaves-as
-    (has-room (s .args .t) (now (s .args .store)) (now (s .args .report)) (s .args .association) (now (s .args .s)) (s .args .f) _ _ _ _ _ _ (l .before .before .before .before .before .before .before .before .before .key-of .ensures) (l .before .before .before .before .before .before .before .before .tail .ensures) (l .before .before .before .before .before .before .place-of .ensures .0) (l .before .before .before .before .before .lowest-free .ensures .0) (l .before .before .before .before .place-at .ensures) (line-is l) (rw (i .before .before .starts .ensures, i .before .is-at2 .ensures) at (i .if1 .left)))
+    (has-room (s .args .t) (now (s .args .store)) (now (s .args .report)) (s .args .association) (now (s .args .s)) (s .args .f) _ _ _ _ _ _ (l .before .before .before .before .before .before .before .before .key-of .ensures) (l .before .before .before .before .before .before .before .tail .ensures) (l .before .before .before .before .before .search-for .ensures .0 .0) (l .before .before .before .before .before .search-for .ensures .0 .1) (l .before .before .before .before .place-at .ensures) (line-is l) (rw (i .before .before .starts .ensures, i .before .is-at2 .ensures) at (i .if1 .left)))
     (k .carry-out .ensures)
 
 pub arrive-spec : {M : Type 1} → statement M
@@ -102,8 +99,7 @@ arrive-spec =
     (tie.spec
     key-of-requires
     tail-requires
-    place-of-requires
-    lowest-free-requires
+    search-for-requires
     place-at-requires
     is-at-requires
     line-of-requires

@@ -1,9 +1,10 @@
 -- Block by block is the rule of whole traces: however a trace is cut into blocks, and whatever room the lines have, what is printed is what the rule prints of the whole.
--- proofs/Whole.antt proves the three claims at the end.
-use Prim.Native.Nat.{ℕ, _≤_}
+-- proofs/Whole.antt proves the four claims at the end.
+use Prim.Native.Nat.{ℕ, zero, suc, _+_, _≤_, _<_}
 use mathlib.Core.Path.{_≡_}
 use mathlib.Core.Bool.{false}
-use mathlib.Core.List.{List, [], _++_}
+use mathlib.Core.List.{List, [], _∷_, _++_}
+use lib.Dec.{eqb}
 use lib.ListN.{length, take, drop, replicate}
 use Rattle.rules.specs.General.{if_then_else_}
 use Rattle.rules.specs.Numbers.{storeLeast}
@@ -12,8 +13,8 @@ use Rattle.rules.specs.Opening.{unopened}
 use Rattle.rules.specs.Sweep.{reportLeast}
 use Rattle.rules.specs.Trace.{itemsOf, printed}
 use Rattle.rules.specs.Trace as trace
-use Rattle.trace.specs.Turns.{registryOf, Turned, turned, runs, endLine}
+use Rattle.trace.specs.Turns.{registryOf, Turned, turned, lineMost, runs, endLine}
 use Rattle.trace.specs.declared.Replay.{Replay}
 
 -- what the rule prints of octets, from a replay on
 abbrev pub replayFrom : trace.Replay → List ℕ → List ℕ
@@ -48,3 +49,25 @@ AtEnd =
 abbrev pub AtBeginning : Type 0
 AtBeginning =
     Shows (record { registry = replicate 27 0; length = 0; table = unopened; begun = false }) (replicate storeLeast 0) (replicate reportLeast 0) trace.beginning
+
+-- the program's turns, so many at most: a block of what is there, its lines, and on with what is left; where nothing was used, with what is read next behind it, or to the end
+abbrev pub behind : (List ℕ → List (List ℕ) → List ℕ) → List ℕ → List (List ℕ) → List ℕ
+behind on left [] = endLine (length left)
+behind on left (octets ∷ reads) = on (left ++ octets) reads
+
+unfoldable pub session : ℕ → ℕ → Replay → List ℕ → List ℕ → List ℕ → List (List ℕ) → List ℕ
+session zero room held store report left reads = []
+session (suc n) room held store report left reads =
+    let t : Turned = runs (length left) room held store report left in
+    let on : List ℕ → List (List ℕ) → List ℕ = session n room (t .held) (t .store) (t .report) in
+    t .lines ++ (if t .ended then [] else if eqb (t .used) 0 then behind on left reads else on (drop (t .used) left) reads)
+
+abbrev pub allOf : List (List ℕ) → List ℕ
+allOf [] = []
+allOf (octets ∷ reads) = octets ++ allOf reads
+
+-- 4. the whole: with turns enough, and room for a line, the program prints what the rule prints of all that is read, however it comes
+abbrev pub OfAll : Type 0
+OfAll =
+    (n room : ℕ) (reads : List (List ℕ)) → lineMost ≤ room → length (allOf reads) + length reads < n
+    → session n room (record { registry = replicate 27 0; length = 0; table = unopened; begun = false }) (replicate storeLeast 0) (replicate reportLeast 0) [] reads ≡ trace.replay (allOf reads)

@@ -1,0 +1,1 @@
+// Traces block by block: what is printed is the rule of whole traces. No code.
