@@ -8,8 +8,8 @@ use model::*;
 
 #[link(name = "host", kind = "static")]
 extern "C" {
-    fn egrynnol_opening(registry: *const u8, length: usize, timer: u32, clock: u32) -> Opened;
-    fn egrynnol_segment(
+    pub fn egrynnol_opening(registry: *const u8, length: usize, timer: u32, clock: u32) -> Opened;
+    pub fn egrynnol_segment(
         table: Table,
         store: *mut u8,
         store_length: usize,
@@ -19,16 +19,21 @@ extern "C" {
         parameter: *const u8,
         parameter_length: usize,
     ) -> Received;
-    fn egrynnol_clock(table: Table, report: *mut u8, length: usize, time: u32) -> Swept;
-    fn egrynnol_release(table: Table, report: *mut u8, length: usize, association: u16) -> Swept;
-    fn egrynnol_delivery(
+    pub fn egrynnol_clock(table: Table, report: *mut u8, length: usize, time: u32) -> Swept;
+    pub fn egrynnol_release(
+        table: Table,
+        report: *mut u8,
+        length: usize,
+        association: u16,
+    ) -> Swept;
+    pub fn egrynnol_delivery(
         decision: Decision,
         parameter: *const u8,
         parameter_length: usize,
         store: *const u8,
         store_length: usize,
     ) -> Part;
-    fn egrynnol_sending(
+    pub fn egrynnol_sending(
         table: Table,
         request: Request,
         origin: *const u8,

@@ -1,8 +1,8 @@
 //! The data of an answer, as a part of the parameter or of the store.
 
-use crate::{Decision, Fault, Model, Part, PLACES, STRETCH};
+use crate::{Decision, Fault, Machine, Part, PLACES, STRETCH};
 
-impl Model {
+impl<const B: bool> Machine<B> {
     /// Any decision may be asked about, also one that no call gave.
     pub fn delivery(&self, decision: Decision, parameter: &[u8], store: &[u8]) -> Part {
         let Decision { place, start, length, .. } = decision;

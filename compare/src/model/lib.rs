@@ -32,21 +32,33 @@ pub use fault::Fault;
 pub use refusal::Refusal;
 pub use shapes::*;
 
-/// The calls of document 01 are its methods.
+/// The calls of document 01 are its methods. One that is not breakable has no fault, and the
+/// compiler leaves out whatever the faults need.
 #[derive(Clone, Copy, Debug)]
-pub struct Model {
+pub struct Machine<const BREAKABLE: bool> {
     fault: Option<Fault>,
 }
 
-impl Model {
-    pub const PLAIN: Model = Model { fault: None };
+/// The model as it is compared.
+pub type Model = Machine<true>;
+/// The model as it is measured: questions about faults would slow it down.
+pub type Unbroken = Machine<false>;
 
+impl Model {
     /// A model that is wrong in one way.
     pub fn with(fault: Fault) -> Model {
-        Model { fault: Some(fault) }
+        Machine { fault: Some(fault) }
+    }
+}
+
+impl<const BREAKABLE: bool> Machine<BREAKABLE> {
+    pub const PLAIN: Self = Machine { fault: None };
+
+    fn fault(&self) -> Option<Fault> {
+        self.fault.filter(|_| BREAKABLE)
     }
 
     fn broken(&self, fault: Fault) -> bool {
-        self.fault == Some(fault)
+        self.fault() == Some(fault)
     }
 }

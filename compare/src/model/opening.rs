@@ -1,11 +1,11 @@
 //! Opening: a registry's octets into a table with no open place.
 
 use crate::sound::listed;
-use crate::{Entry, Fault, Model, Opened, Refusal, Table, CONTEXTS, ENTRIES, TIMERS};
+use crate::{Entry, Fault, Machine, Opened, Refusal, Table, CONTEXTS, ENTRIES, TIMERS};
 
-impl Model {
+impl<const B: bool> Machine<B> {
     pub fn opening(&self, registry: &[u8], timer: u32, clock: u32) -> Opened {
-        let first = match self.fault {
+        let first = match self.fault() {
             Some(Fault::RegistryFirst) => self.registry(registry).map(|_| ()),
             _ => Ok(()),
         };
@@ -31,7 +31,7 @@ impl Model {
         for (i, record) in records.enumerate() {
             let &[kind @ (1 | 2), high, low] = record else { return Err(Refusal::Registry) };
             let entry = Entry { kind, context: u16::from_be_bytes([high, low]) };
-            let twice = match self.fault {
+            let twice = match self.fault() {
                 Some(Fault::TwiceByKind) => entries[..i].contains(&entry),
                 _ => listed(&entries[..i], entry.context),
             };

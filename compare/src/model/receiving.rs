@@ -3,7 +3,7 @@
 use crate::record::{Covered, Record};
 use crate::segment::{Position, Segment};
 use crate::sound::OPEN;
-use crate::{Decision, Fault, Key, Model, Place, Received, Refusal, Table};
+use crate::{Decision, Fault, Key, Machine, Place, Received, Refusal, Table};
 use crate::{PARAMETER, PLACES, RECORD, STORE, STRETCH};
 
 /// The receiving line that applies, with the place it concerns.
@@ -37,7 +37,7 @@ struct Effect {
     write: Option<usize>,
 }
 
-impl Model {
+impl<const B: bool> Machine<B> {
     pub fn segment(
         &self,
         table: Table,
@@ -104,7 +104,7 @@ impl Model {
     fn later_line(&self, table: &Table, index: usize, remaining: u8, length: usize) -> Line {
         let place = &table.places[index];
         let most = if self.broken(Fault::LongByOne) { STRETCH - 1 } else { STRETCH };
-        let in_turn = match self.fault {
+        let in_turn = match self.fault() {
             Some(Fault::RemainingAtMost) => remaining < place.remaining,
             _ => remaining + 1 == place.remaining,
         };
@@ -126,7 +126,7 @@ impl Model {
 
     fn same(&self, a: &Key, b: &Key) -> bool {
         let rest = |key: &Key| (key.association, key.context, key.reference);
-        match self.fault {
+        match self.fault() {
             Some(Fault::AddressNumber) => rest(a) == rest(b) && number(a).eq(number(b)),
             Some(Fault::AddressNoLength) => rest(a) == rest(b) && a.address == b.address,
             _ => a == b,
@@ -135,7 +135,7 @@ impl Model {
 
     fn free(&self, table: &Table) -> Result<usize, Refusal> {
         let mut places = table.places.iter();
-        let free = match self.fault {
+        let free = match self.fault() {
             Some(Fault::HighestFree) => places.rposition(|place| !place.is_open()),
             _ => places.position(|place| !place.is_open()),
         };
@@ -183,7 +183,7 @@ impl Model {
     /// What was saved is lost; the new first segment takes its place.
     fn restart(&self, table: &Table, index: usize, segment: &Segment) -> Effect {
         let covered = Covered::saved(&table.places[index]);
-        let place = match self.fault {
+        let place = match self.fault() {
             Some(Fault::RestartDropsNew) => Place::default(),
             _ => first(table, segment),
         };
@@ -236,14 +236,14 @@ impl Model {
 
     /// Where in the store the next segment of an open place goes.
     fn end(&self, table: &Table, index: usize) -> usize {
-        match self.fault {
+        match self.fault() {
             Some(Fault::StoreAtStart) => index * STRETCH,
             _ => index * STRETCH + usize::from(table.places[index].octets),
         }
     }
 
     pub(crate) fn freed(&self, place: &Place) -> Place {
-        match self.fault {
+        match self.fault() {
             Some(Fault::FreeMarkOnly) => Place { mark: 0, ..*place },
             _ => Place::default(),
         }

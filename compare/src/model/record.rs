@@ -1,7 +1,7 @@
 //! Records of deliveries and losses.
 
 use crate::segment::Segment;
-use crate::{Fault, Key, Model, Place, RECORD};
+use crate::{Fault, Key, Machine, Place, RECORD};
 
 /// What a record covers: saved segments, a segment that was never saved, or both.
 #[derive(Clone, Copy, Debug)]
@@ -41,7 +41,7 @@ pub struct Record {
     pub covered: Covered,
 }
 
-impl Model {
+impl<const B: bool> Machine<B> {
     pub(crate) fn octets(&self, record: &Record) -> [u8; RECORD] {
         let Covered { key, instruction, segments, octets } = record.covered;
         let mut out = [0; RECORD];

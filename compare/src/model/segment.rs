@@ -1,7 +1,7 @@
 //! A parameter read into its fields.
 
 use crate::cursor::Cursor;
-use crate::{Fault, Key, Model, Refusal, Table, ADDRESS, UNSEGMENTED};
+use crate::{Fault, Key, Machine, Refusal, Table, ADDRESS, UNSEGMENTED};
 
 /// Which edition's layout a registered context has.
 #[derive(Clone, Copy, Debug, PartialEq, Eq)]
@@ -51,7 +51,7 @@ impl Table {
     }
 }
 
-impl Model {
+impl<const B: bool> Machine<B> {
     /// Refusals 5 to 9, in the order in which the octets show them.
     pub(crate) fn read<'a>(
         &self,

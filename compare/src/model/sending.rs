@@ -3,7 +3,7 @@
 use std::ops::Range;
 
 use crate::segment::Edition;
-use crate::{Fault, Model, Refusal, Request, Sent, Table, ADDRESS, PARAMETER, SEGMENTS, STRETCH};
+use crate::{Fault, Machine, Refusal, Request, Sent, Table, ADDRESS, PARAMETER, SEGMENTS, STRETCH};
 
 /// How the data is cut.
 struct Cut {
@@ -37,7 +37,7 @@ impl Pen<'_> {
     }
 }
 
-impl Model {
+impl<const B: bool> Machine<B> {
     pub fn sending(
         &self,
         table: Table,
@@ -103,7 +103,7 @@ impl Model {
         Refusal::Room.unless(room1 > header && room > header + 1)?;
         let (first, later) = (room1 - header - 1, room - header - 1);
         let rest = n - first;
-        let count = match self.fault {
+        let count = match self.fault() {
             Some(Fault::CountOneMore) => 2 + rest / later,
             _ => 1 + rest.div_ceil(later),
         };

@@ -1,7 +1,7 @@
 //! Document 01's "Sound means".
 
 use crate::segment::Edition;
-use crate::{Entry, Fault, Model, Place, Refusal, Table, CONTEXTS, STRETCH, TIMERS};
+use crate::{Entry, Fault, Machine, Place, Refusal, Table, CONTEXTS, STRETCH, TIMERS};
 
 pub const OPEN: u8 = 1;
 
@@ -11,7 +11,7 @@ impl Place {
     }
 }
 
-impl Model {
+impl<const B: bool> Machine<B> {
     pub(crate) fn sound(&self, table: &Table) -> Result<(), Refusal> {
         let holds = TIMERS.contains(&table.timer)
             && registry_sound(&table.registry)

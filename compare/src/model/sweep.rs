@@ -2,11 +2,11 @@
 
 use crate::record::{Covered, Record};
 use crate::sound::age;
-use crate::{Fault, Model, Place, Refusal, Swept, Table, RECORD, SWEEP};
+use crate::{Fault, Machine, Place, Refusal, Swept, Table, RECORD, SWEEP};
 
 const HALF: u32 = 1 << 31;
 
-impl Model {
+impl<const B: bool> Machine<B> {
     pub fn clock(&self, table: Table, report: &mut [u8], time: u32) -> Swept {
         let step = age(time, table.clock);
         let ahead = step < HALF || self.broken(Fault::ClockHalf) && step == HALF;
@@ -20,7 +20,7 @@ impl Model {
     }
 
     fn expired(&self, time: u32, start: u32, timer: u32) -> bool {
-        match self.fault {
+        match self.fault() {
             Some(Fault::AgePlain) => time.saturating_sub(start) >= timer,
             Some(Fault::TimerLate) => age(time, start) > timer,
             _ => age(time, start) >= timer,

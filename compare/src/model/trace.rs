@@ -1,7 +1,7 @@
 //! Replaying a trace of house octets, as text.
 
 use crate::cursor::Cursor;
-use crate::{Fault, Model, Opened, Table, PARAMETER, RECORD, STORE, SWEEP};
+use crate::{Fault, Machine, Opened, Table, PARAMETER, RECORD, STORE, SWEEP};
 
 /// One record of a trace.
 enum Item<'a> {
@@ -20,8 +20,8 @@ enum Stop {
 }
 
 /// The table, the lent areas and the registry as read so far.
-struct Replay {
-    model: Model,
+struct Replay<const B: bool> {
+    model: Machine<B>,
     registry: Vec<u8>,
     opened: bool,
     table: Table,
@@ -29,7 +29,7 @@ struct Replay {
     report: [u8; SWEEP],
 }
 
-impl Model {
+impl<const B: bool> Machine<B> {
     /// The whole output of the replay program for this input.
     pub fn replay(&self, trace: &[u8]) -> String {
         let mut replay = Replay {
@@ -85,7 +85,7 @@ fn segment<'a>(cursor: &mut Cursor<'a>) -> Option<Item<'a>> {
     Some(Item::Segment { association, parameter })
 }
 
-impl Replay {
+impl<const B: bool> Replay<B> {
     /// The record's line: none for a registry record.
     fn step(&mut self, octets: &[u8], item: Item) -> Result<String, Stop> {
         let model = self.model;

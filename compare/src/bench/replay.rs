@@ -1,0 +1,113 @@
+//! The replay program beside a process that replays by the model.
+
+use std::fs::{self, File};
+use std::io::{self, Read, Write};
+use std::path::{Path, PathBuf};
+use std::process::{Command, ExitCode, Stdio};
+use std::time::Instant;
+
+use crate::areas::{self, REGISTRY};
+use crate::mix;
+use crate::rounds::{figures, Figures};
+use model::*;
+
+/// After so many segments there is a clock record.
+const TICK: usize = 20;
+
+/// `bench --replay-model`.
+pub fn child() -> ExitCode {
+    let mut trace = Vec::new();
+    let read = io::stdin().lock().read_to_end(&mut trace);
+    let text = Unbroken::PLAIN.replay(&trace);
+    match read.and_then(|_| io::stdout().lock().write_all(text.as_bytes())) {
+        Ok(()) => ExitCode::SUCCESS,
+        Err(error) => {
+            eprintln!("bench: {error}");
+            ExitCode::FAILURE
+        }
+    }
+}
+
+/// The files of a measurement, gone with it.
+struct Folder(PathBuf);
+
+impl Folder {
+    fn new() -> io::Result<Self> {
+        let path = std::env::temp_dir().join(format!("egrynnol-bench-{}", std::process::id()));
+        fs::create_dir(&path)?;
+        Ok(Folder(path))
+    }
+}
+
+impl Drop for Folder {
+    fn drop(&mut self) {
+        // Nothing can be done where this fails.
+        fs::remove_dir_all(&self.0).ok();
+    }
+}
+
+/// From the start of a process to its end, with a file as its input and another as its output.
+pub fn measure(program: &Path, segments: usize, quick: bool) -> Result<Figures, String> {
+    if !program.is_file() {
+        return Err(format!("there is no replay program at {}", program.display()));
+    }
+    timed(program, segments, quick).map_err(|error| error.to_string())
+}
+
+fn timed(program: &Path, segments: usize, quick: bool) -> io::Result<Figures> {
+    let folder = Folder::new()?;
+    let input = folder.0.join("trace");
+    let outputs = [folder.0.join("library"), folder.0.join("model")];
+    fs::write(&input, trace(segments))?;
+    let own = std::env::current_exe()?;
+    let run = |which: usize| match which {
+        0 => run(&mut Command::new(program), &input, &outputs[0]),
+        _ => run(Command::new(&own).arg("--replay-model"), &input, &outputs[1]),
+    };
+    run(0)?;
+    run(1)?;
+    let same = fs::read(&outputs[0])? == fs::read(&outputs[1])?;
+    assert!(same, "the replay program and the model print differently");
+    let mut times = Vec::new();
+    for round in 0..if quick { 5 } else { 15 } {
+        let first = run(round % 2)?;
+        let second = run(1 - round % 2)?;
+        times.push(if round % 2 == 0 { (first, second) } else { (second, first) });
+    }
+    Ok(figures(&times))
+}
+
+/// Nanoseconds.
+fn run(command: &mut Command, input: &Path, output: &Path) -> io::Result<f64> {
+    let (input, output) = (File::open(input)?, File::create(output)?);
+    let begun = Instant::now();
+    let status = command.stdin(input).stdout(output).stderr(Stdio::inherit()).status()?;
+    let time = begun.elapsed().as_nanos() as f64;
+    match status.success() {
+        true => Ok(time),
+        false => Err(io::Error::other(format!("the replay process ended with {status}"))),
+    }
+}
+
+/// The mix again and again, as a trace.
+fn trace(segments: usize) -> Vec<u8> {
+    let mix = mix::segments();
+    let mix: Vec<(u16, &[u8])> = mix.iter().collect();
+    let mut trace = Vec::with_capacity(segments * 260);
+    trace.extend(REGISTRY);
+    trace.push(32);
+    trace.extend(areas::TIMER.to_be_bytes());
+    trace.extend(0_u32.to_be_bytes());
+    for (k, (association, parameter)) in mix.iter().cycle().take(segments).enumerate() {
+        if k % TICK == 0 {
+            trace.push(34);
+            trace.extend(((k / TICK) as u32).to_be_bytes());
+        }
+        trace.push(33);
+        trace.extend(association.to_be_bytes());
+        trace.push(parameter.len() as u8);
+        trace.extend(*parameter);
+        trace.resize(trace.len() + PARAMETER - parameter.len(), 0);
+    }
+    trace
+}
