@@ -54,15 +54,7 @@ fn main() -> ExitCode {
     match options.task {
         Task::Help => say(options::HELP.trim_end()),
         Task::ReplayModel => return replay::child(),
-        Task::Measure => {
-            let mut bench = Bench { options, painted: Painted::new() };
-            bench.calls();
-            bench.replay();
-            bench.through();
-            bench.copying();
-            bench.stack();
-            sizes();
-        }
+        Task::Measure => Bench { options, painted: Painted::new() }.run(),
     }
     ExitCode::SUCCESS
 }
@@ -74,6 +66,17 @@ struct Bench {
 }
 
 impl Bench {
+    fn run(&mut self) {
+        self.calls();
+        if self.options.only.is_none() {
+            self.replay();
+            self.through();
+            self.copying();
+            self.stack();
+            sizes();
+        }
+    }
+
     fn calls(&mut self) {
         say("| calls | library / model | middle half | library | model |\n|---|---:|---:|---:|---:|");
         for others in [0, 4, 15] {
@@ -101,6 +104,9 @@ impl Bench {
     }
 
     fn row(&mut self, name: &str, mut work: impl Work) {
+        if self.options.only.as_ref().is_some_and(|only| !name.contains(only)) {
+            return;
+        }
         work.go(&Both);
         work.go(&self.painted);
         let figures = rounds::beside(
@@ -126,7 +132,7 @@ impl Bench {
         }
     }
 
-    fn copying(&mut self) {
+    fn copying(&self) {
         say("\n| segments with 250 octets of information | octets a second | time / plain copy |");
         say("|---|---:|---:|");
         for (name, rate, ratio) in copying::rows(self.options.rounds) {
@@ -134,7 +140,7 @@ impl Bench {
         }
     }
 
-    fn stack(&mut self) {
+    fn stack(&self) {
         calls::Opening::new().go(&self.painted);
         say("\n| call of the library | stack, octets | of which arguments |\n|---|---:|---:|");
         for (name, arguments, own) in self.painted.deepest() {

@@ -9,6 +9,7 @@ bench: the proved library beside the model, measured in one run on the same call
 
   --quick            a few seconds in all, and less steady figures
   --rounds N         rounds of each row (default 2001; with --quick 101)
+  --only TEXT        of the calls, only the rows whose name has TEXT in it, and nothing else
   --replay PATH      the replay program (default ../target/bin/replay beside this crate)
   --replay-model     replays standard input to standard output by the model, and no more:
                      the process that the replay program is measured beside
@@ -35,18 +36,20 @@ pub struct Options {
     pub task: Task,
     pub quick: bool,
     pub rounds: usize,
+    pub only: Option<String>,
     pub replay: PathBuf,
 }
 
 impl Options {
     pub fn read(mut words: impl Iterator<Item = String>) -> Result<Options, String> {
         let (mut task, mut quick, mut rounds) = (Task::Measure, false, None);
-        let mut replay = REPLAY.into();
+        let (mut only, mut replay) = (None, REPLAY.into());
         while let Some(word) = words.next() {
             let mut value = || words.next().ok_or(format!("{word} needs a value"));
             match word.as_str() {
                 "--quick" => quick = true,
                 "--rounds" => rounds = Some(number(&value()?)?),
+                "--only" => only = Some(value()?),
                 "--replay" => replay = value()?.into(),
                 "--replay-model" => task = Task::ReplayModel,
                 "--help" | "-h" => task = Task::Help,
@@ -54,7 +57,7 @@ impl Options {
             }
         }
         let rounds = rounds.unwrap_or(if quick { 101 } else { 2_001 });
-        Ok(Options { task, quick, rounds, replay })
+        Ok(Options { task, quick, rounds, only, replay })
     }
 }
 
