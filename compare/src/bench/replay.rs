@@ -14,17 +14,39 @@ use model::*;
 /// After so many segments there is a clock record.
 const TICK: usize = 20;
 
+/// Octets that the replay program reads at a time: the model's process does the same.
+const BLOCK: usize = 65_536;
+
 /// `bench --replay-model`.
 pub fn child() -> ExitCode {
-    let mut trace = Vec::new();
-    let read = io::stdin().lock().read_to_end(&mut trace);
-    let text = Unbroken::PLAIN.replay(&trace);
-    match read.and_then(|_| io::stdout().lock().write_all(text.as_bytes())) {
+    match replay(io::stdin().lock(), io::stdout().lock()) {
         Ok(()) => ExitCode::SUCCESS,
         Err(error) => {
             eprintln!("bench: {error}");
             ExitCode::FAILURE
         }
+    }
+}
+
+/// Block by block: what is left of one, the front of a record, moves to the front of the next.
+fn replay(mut input: impl Read, mut output: impl Write) -> io::Result<()> {
+    let mut replay = Replay::new(Unbroken::PLAIN);
+    let (mut block, mut text) = (vec![0; BLOCK], String::with_capacity(BLOCK));
+    let mut have = 0;
+    loop {
+        let read = input.read(&mut block[have..])?;
+        have += read;
+        let used = replay.block(&block[..have], &mut text);
+        if read == 0 {
+            replay.end(have - used, &mut text);
+        }
+        output.write_all(text.as_bytes())?;
+        if read == 0 || text.ends_with("stop\n") {
+            return Ok(());
+        }
+        text.clear();
+        block.copy_within(used..have, 0);
+        have -= used;
     }
 }
 

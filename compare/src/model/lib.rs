@@ -31,6 +31,7 @@ mod trace;
 pub use fault::Fault;
 pub use refusal::Refusal;
 pub use shapes::*;
+pub use trace::Replay;
 
 /// The calls of document 01 are its methods. One that is not breakable has no fault, and the
 /// compiler leaves out whatever the faults need.

@@ -1,5 +1,7 @@
 //! Replaying a trace of house octets, as text.
 
+use std::fmt::Write;
+
 use crate::cursor::Cursor;
 use crate::{Fault, Machine, Opened, Table, PARAMETER, RECORD, STORE, SWEEP};
 
@@ -19,11 +21,12 @@ enum Stop {
     RegistryAfterOpen,
 }
 
-/// The table, the lent areas and the registry as read so far.
-struct Replay<const B: bool> {
+/// A replay that is under way: the table, the lent areas and the registry as read so far.
+pub struct Replay<const B: bool> {
     model: Machine<B>,
     registry: Vec<u8>,
     opened: bool,
+    stopped: bool,
     table: Table,
     store: Vec<u8>,
     report: [u8; SWEEP],
@@ -32,27 +35,10 @@ struct Replay<const B: bool> {
 impl<const B: bool> Machine<B> {
     /// The whole output of the replay program for this input.
     pub fn replay(&self, trace: &[u8]) -> String {
-        let mut replay = Replay {
-            model: *self,
-            registry: Vec::new(),
-            opened: false,
-            table: Table::default(),
-            store: vec![0; STORE],
-            report: [0; SWEEP],
-        };
+        let mut replay = Replay::new(*self);
         let mut text = String::new();
-        let mut cursor = Cursor::new(trace);
-        while !cursor.rest().is_empty() {
-            let line = item(&mut cursor).and_then(|(octets, item)| replay.step(octets, item));
-            match line {
-                Ok(line) => text.push_str(&line),
-                Err(Stop::Cut) if self.broken(Fault::CutSilent) => break,
-                Err(_) => {
-                    text.push_str("stop\n");
-                    break;
-                }
-            }
-        }
+        let used = replay.block(trace, &mut text);
+        replay.end(trace.len() - used, &mut text);
         text
     }
 }
@@ -86,8 +72,45 @@ fn segment<'a>(cursor: &mut Cursor<'a>) -> Option<Item<'a>> {
 }
 
 impl<const B: bool> Replay<B> {
+    pub fn new(model: Machine<B>) -> Self {
+        Replay {
+            model,
+            registry: Vec::new(),
+            opened: false,
+            stopped: false,
+            table: Table::default(),
+            store: vec![0; STORE],
+            report: [0; SWEEP],
+        }
+    }
+
+    /// Replays the whole records at the front, adds their lines to the text and answers how many
+    /// octets they have. What is left may be the front of a record.
+    pub fn block(&mut self, trace: &[u8], text: &mut String) -> usize {
+        let mut cursor = Cursor::new(trace);
+        let mut left = trace.len();
+        while !self.stopped {
+            match item(&mut cursor).and_then(|(octets, item)| self.step(octets, item, text)) {
+                Ok(()) => left = cursor.rest().len(),
+                Err(Stop::Cut) => break,
+                Err(_) => {
+                    self.stopped = true;
+                    text.push_str("stop\n");
+                }
+            }
+        }
+        trace.len() - left
+    }
+
+    /// The input has ended, and so many octets are left of it.
+    pub fn end(&self, left: usize, text: &mut String) {
+        if left > 0 && !self.stopped && !self.model.broken(Fault::CutSilent) {
+            text.push_str("stop\n");
+        }
+    }
+
     /// The record's line: none for a registry record.
-    fn step(&mut self, octets: &[u8], item: Item) -> Result<String, Stop> {
+    fn step(&mut self, octets: &[u8], item: Item, text: &mut String) -> Result<(), Stop> {
         let model = self.model;
         let report = &mut self.report;
         let (name, table, refusal, records) = match item {
@@ -96,7 +119,7 @@ impl<const B: bool> Replay<B> {
             }
             Item::Register => {
                 self.registry.extend_from_slice(octets);
-                return Ok(String::new());
+                return Ok(());
             }
             Item::Open { timer, clock } => {
                 self.opened = true;
@@ -118,17 +141,16 @@ impl<const B: bool> Replay<B> {
             }
         };
         self.table = table;
-        Ok(self.line(name, refusal, usize::from(records)))
+        let [delivered, lost] = self.octets(usize::from(records));
+        writeln!(text, "{name} {refusal} {records} {delivered} {lost}").expect("a string takes it");
+        Ok(())
     }
 
-    /// The octets are those of the records this call made.
-    fn line(&self, name: &str, refusal: u8, records: usize) -> String {
+    /// Octets delivered and octets lost, by the records that this call made.
+    fn octets(&self, records: usize) -> [u32; 2] {
         let most = if self.model.broken(Fault::FirstRecordOnly) { 1 } else { records };
         let made = self.report.chunks_exact(RECORD).take(records.min(most));
-        let sum = |kind: u8| {
-            let octets = |record: &[u8]| u32::from(u16::from_be_bytes([record[9], record[10]]));
-            made.clone().filter(|record| record[0] == kind).map(octets).sum::<u32>()
-        };
-        format!("{name} {refusal} {records} {} {}\n", sum(16), sum(17))
+        let octets = |record: &[u8]| u32::from(u16::from_be_bytes([record[9], record[10]]));
+        [16, 17].map(|kind| made.clone().filter(|record| record[0] == kind).map(octets).sum())
     }
 }
