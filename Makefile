@@ -57,5 +57,11 @@ uninstall:
 	rm -f $(BINDIR)/replay $(BINDIR)/egrynnol-trace $(LIBDIR)/libegrynnol.a $(LIBDIR)/pkgconfig/egrynnol.pc $(INCLUDEDIR)/egrynnol.h
 	rm -f $(MANDIR)/man1/replay.1 $(MANDIR)/man1/egrynnol-trace.1 $(MANDIR)/man3/egrynnol.3
 
+bench: $(PROGRAMS) $(LIBRARY)
+	cargo run --release --offline --manifest-path compare/Cargo.toml --bin bench
+
+peers: $(LIBRARY)
+	tools/peers
+
 clean:
 	rm -rf target
