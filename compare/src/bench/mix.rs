@@ -165,3 +165,38 @@ fn loss(random: &mut Random, first: &Wire, cause: usize) -> Vec<Wire> {
     }
     parts
 }
+
+#[cfg(test)]
+mod tests {
+    use super::*;
+
+    /// Kinds of decisions, and causes, each with how often the mix meets it.
+    fn met(mix: &mut Mix) -> ([usize; 5], [usize; 6], Table) {
+        let (mut kinds, mut causes, mut table) = ([0; 5], [0; 6], mix.table);
+        let Areas { store, report } = &mut mix.areas;
+        for (association, parameter) in mix.segments.iter() {
+            let got = Unbroken::PLAIN.segment(table, store, report, association, parameter);
+            kinds[usize::from(got.decision.kind)] += 1;
+            causes[usize::from(got.decision.cause)] += 1;
+            table = got.table;
+        }
+        (kinds, causes, table)
+    }
+
+    #[test]
+    fn the_mix_has_all_that_it_should() {
+        for others in [0, 4, 15] {
+            let mut mix = Mix::new(others);
+            let ([refused, saved, alone, joined, lost], causes, after) = met(&mut mix);
+            assert_eq!((refused, after), (0, mix.table));
+            assert_eq!(refused + saved + alone + joined + lost, mix.calls());
+            assert!(
+                alone * 4 > mix.calls() && saved * 4 > mix.calls() && joined * 10 > mix.calls()
+            );
+            assert!(
+                lost * 20 < mix.calls() && causes[1..].iter().all(|met| *met > 0),
+                "{causes:?}"
+            );
+        }
+    }
+}
