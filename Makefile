@@ -58,7 +58,7 @@ uninstall:
 	rm -f $(MANDIR)/man1/replay.1 $(MANDIR)/man1/egrynnol-trace.1 $(MANDIR)/man3/egrynnol.3
 
 bench: $(PROGRAMS) $(LIBRARY)
-	cargo run --release --offline --manifest-path compare/Cargo.toml --bin bench
+	cargo run --release --offline --manifest-path compare/Cargo.toml --target-dir target/compare --bin bench
 
 peers: $(LIBRARY)
 	tools/peers
