@@ -3,8 +3,10 @@ use libc::STDIN_FILENO;
 use libc::STDOUT_FILENO;
 use trace::Progress;
 use trace::Replay;
-ghost use Prim.Native.Nat.{_≤_};
-ghost use lib.ListN.{length};
+ghost use mathlib.Core.Path.{_≡_};
+ghost use Prim.Native.Nat.{_-_, _≤_};
+ghost use lib.ListN.{length, take, drop};
+ghost use Rattle.octets.specs.Splice.{splice};
 
 // A replay, with so many octets read and not yet used, and whether it goes on.
 struct Session {
@@ -28,6 +30,21 @@ fn print(out: &[u8], n: usize) -> bool
     requires { ⌜ n ≤ length (now out) ⌝ }
 {
     io::write_all(STDOUT_FILENO, &out[..n])
+}
+
+// The octets from an index to another move to the front.
+fn forward(input: &mut [u8], from: usize, to: usize) -> usize
+    requires { ⌜ (from ≤ to) × (to ≤ length (now input)) ⌝ }
+    ensures { λ r. ⌜ r ≡ to - from ⌝ }
+    ensures { λ r. ⌜ now (input .exit) ≡ splice (now (input .entry)) 0 (take (to - from) (drop from (now (input .entry)))) ⌝ }
+{
+    let n = to - from;
+    let mut i = 0;
+    while i < n {
+        input[i] = input[from + i];
+        i += 1;
+    }
+    n
 }
 
 // Reads more, past the octets that wait for the rest of their record. Where the input has ended, so does the replay.
@@ -60,7 +77,7 @@ fn go_on(t: Progress, input: &mut [u8], have: usize, out: &mut [u8]) -> Session
     if !going {
         return over(replay);
     }
-    let left = trace::forward(input, used, have);
+    let left = forward(input, used, have);
     if used == 0 {
         return refill(replay, input, left, out);
     }

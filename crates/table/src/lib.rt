@@ -62,21 +62,21 @@ pub fn same_key(a: Key, b: Key) -> bool
 }
 
 // An octet where it stands at an index or behind it; before it 0.
-fn counted(x: u8, at: usize, i: usize) -> u32
+fn counted(x: u8, at: usize, i: usize) -> u16
     ensures { λ r. ⌜ r ≡ (if ltb i at then 0 else x) ⌝ }
     ensures { λ r. ⌜ r ≤ 255 ⌝ }
 {
     if i < at {
         return 0;
     }
-    x as u32
+    x as u16
 }
 
 // Whether an address is zero from index at on. Its octets are summed: with no way out of the loop it takes a few instructions in all.
 fn zero_from(a: [u8; 20], at: usize) -> bool
     ensures { λ r. ⌜ r ≡ every isZero (drop at a) ⌝ }
 {
-    let mut sum = 0;
+    let mut sum: u16 = 0;
     let mut i = 0;
     while i < 20 {
         sum += counted(a[i], at, i);

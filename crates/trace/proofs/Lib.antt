@@ -3,6 +3,5 @@ pub mod Registering
 pub mod Happening
 pub mod Fitting
 pub mod Turning
-pub mod Moving
 pub mod Running
 pub mod Items

@@ -3,7 +3,7 @@ use rules::Swept;
 use rules::Table;
 ghost use mathlib.Core.Path.{_≡_};
 ghost use mathlib.Core.Bool.{true, false};
-ghost use Prim.Native.Nat.{_+_, _-_, _≤_};
+ghost use Prim.Native.Nat.{_+_, _≤_};
 ghost use lib.ListN.{length, take, drop, replicate};
 ghost use Rattle.octets.specs.Splice.{splice, Wrote};
 ghost use Rattle.octets.specs.Number.{number};
@@ -384,19 +384,4 @@ pub fn beginning() -> Replay
         table,
         begun: false,
     }
-}
-
-// The octets from an index to another move to the front.
-pub fn forward(input: &mut [u8], from: usize, to: usize) -> usize
-    requires { ⌜ (from ≤ to) × (to ≤ length (now input)) ⌝ }
-    ensures { λ r. ⌜ r ≡ to - from ⌝ }
-    ensures { λ r. ⌜ now (input .exit) ≡ splice (now (input .entry)) 0 (take (to - from) (drop from (now (input .entry)))) ⌝ }
-{
-    let n = to - from;
-    let mut i = 0;
-    while i < n {
-        input[i] = input[from + i];
-        i += 1;
-    }
-    n
 }

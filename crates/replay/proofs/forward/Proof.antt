@@ -5,9 +5,9 @@ use native.Mathlib.Omega.{arith}
 use lib.ListN.{length, take, drop, length-set}
 use Rattle.octets.specs.Splice.{splice}
 use Rattle.octets.proofs.Splice.{splice-nil}
-use Rattle.trace.proofs.Moving.{moved}
-use Rattle.trace.proofs.forward.Statement.{statement}
-use Rattle.trace.proofs.forward.Tie as tie
+use Rattle.replay.proofs.Moving.{moved}
+use Rattle.replay.proofs.forward.Statement.{statement}
+use Rattle.replay.proofs.forward.Tie as tie
 
 abbrev Inv-loop : tie.InvT-loop
 Inv-loop input₀ from to n i₀ input i = (i ≤ n) × (length input ≡ length input₀) × (input ≡ splice input₀ 0 (take i (drop from input₀)))
