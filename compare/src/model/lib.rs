@@ -1,9 +1,12 @@
 //! The model: a second implementation of document 01 (01-scope.md), against which the proved
 //! library is compared call by call.
 //!
-//! Independence. It was written from document 01 and the team's readings of it (readings.md)
-//! alone. Whoever wrote it did not read the library's rules, its code or its decisions; only the
-//! shapes of the calls (`shapes`) are shared.
+//! Independence. It was written from document 01 and the team's readings of it (readings.md);
+//! whoever wrote it did not read the library's rules, its code or its decisions. From the library
+//! come the shapes of the calls (`shapes`) and what its C interface says beyond document 01: the
+//! numbers of a decision, 16 for no place, an empty part as zeros. Two things were changed later by
+//! one who had seen the library's documents and its profile, for measuring: `Machine` without
+//! faults, and a trace that is replayed block by block (`trace`). No rule of a call was.
 //!
 //! Style. Bits are first read into small types in which only what is good can be written: a
 //! `Cursor` and `?` for the octets, `Position` for octets 3 and 3a, `Line` for the receiving
