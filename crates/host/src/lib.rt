@@ -148,7 +148,7 @@ fn nowhere() -> Stretch
 pub extern "C" fn egrynnol_opening(registry: &[u8], timer: u32, clock: u32) -> Opened
     ensures { λ r. ⌜ OfOpening (now (registry .entry)) timer clock r ⌝ }
 {
-    table::opening(registry, timer, clock)
+    opening::opening(registry, timer, clock)
 }
 
 // A segment arrives.

@@ -99,7 +99,7 @@ pub fn segment(
 ) -> Received
     ensures { λ r. ⌜ OfSegment t (now (store .entry)) (now (report .entry)) association (now (s .entry)) r (now (store .exit)) (now (report .exit)) ⌝ }
 {
-    if !table::is_sound(t) {
+    if !soundness::is_sound(t) {
         return refused(t, 1);
     }
     if store.len() < 32768 {

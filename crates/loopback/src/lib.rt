@@ -145,7 +145,7 @@ fn others(
 fn unfit(t: Table, store: usize, report: usize, area: usize) -> u8
     ensures { λ r. ⌜ r ≡ first (fitChecks t store report area) ⌝ }
 {
-    if !table::is_sound(t) {
+    if !soundness::is_sound(t) {
         return 1;
     }
     if store < 32768 {

@@ -8,7 +8,7 @@ use rules::Table;
 
 // Context 3 of 1998; T 100.
 fn fresh() -> Table {
-    let r = table::opening(b"\x01\x00\x03", 100, 0);
+    let r = opening::opening(b"\x01\x00\x03", 100, 0);
     r.table
 }
 

@@ -246,7 +246,7 @@ pub fn sending(
     let registry = t.registry;
     let context = q.context;
     let kind = registry::kind_of(registry, context);
-    let sound = table::is_sound(t);
+    let sound = soundness::is_sound(t);
     let o = origin.len();
     let d = destination.len();
     let n = whole.len();

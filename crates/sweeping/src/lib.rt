@@ -144,7 +144,7 @@ fn refused(t: Table, refusal: u8) -> Swept
 fn judge(t: Table, report: &[u8]) -> u8
     ensures { λ r. ⌜ r ≡ first (releaseChecks t (now (report .entry))) ⌝ }
 {
-    if !table::is_sound(t) {
+    if !soundness::is_sound(t) {
         return 1;
     }
     if report.len() < 512 {

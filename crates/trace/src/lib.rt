@@ -124,7 +124,7 @@ fn open(held: Replay, timer: u32, clock: u32) -> Answered
     ensures { λ r. ⌜ r ≡ answerOpened (opening (registryOf held) timer clock) ⌝ }
 {
     let registry = held.registry;
-    let r = table::opening(octets::stretch(&registry, 0, held.length), timer, clock);
+    let r = opening::opening(octets::stretch(&registry, 0, held.length), timer, clock);
     let table = r.table;
     Answered {
         table,
@@ -376,7 +376,7 @@ pub fn ending(left: usize, out: &mut [u8]) -> usize
 pub fn beginning() -> Replay
     ensures { λ r. ⌜ r ≡ record { registry = replicate 27 0; length = 0; table = unopened; begun = false } ⌝ }
 {
-    let r = table::opening(b"", 0, 0);
+    let r = opening::opening(b"", 0, 0);
     let table = r.table;
     Replay {
         registry: [0; 27],

@@ -29,7 +29,7 @@ fn octets(s: &[u8]) {
 
 // Registry 01 00 03, 02 00 04; T 100.
 fn fresh(clock: u32) -> Table {
-    let r = table::opening(b"\x01\x00\x03\x02\x00\x04", 100, clock);
+    let r = opening::opening(b"\x01\x00\x03\x02\x00\x04", 100, clock);
     r.table
 }
 
