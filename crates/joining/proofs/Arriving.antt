@@ -1,18 +1,23 @@
 -- The steps of the segment call, one after the other, are its rule.
-use Prim.Native.Nat.{ℕ, _≤_}
+use Prim.Native.Nat.{ℕ, zero, suc, _≤_}
 use mathlib.Core.Path.{_≡_, refl, sym, ap, _∙_}
-use mathlib.Core.Bool.{Bool, true, false, not, _&&_}
+use mathlib.Core.Bool.{Bool, true, false, not, _&&_, and-eq-true-iff, true≢false}
 use mathlib.Core.List.{List, [], _∷_, _++_}
+use native.Mathlib.Omega.{arith}
+use borrow.Author.Tests.{eqb-true}
 use lib.Dec.{ltb}
-use lib.ListN.{length, drop}
-use Rattle.rules.specs.Numbers.{storeLeast, parameterMost, addressMost}
+use lib.ListN.{length, getD}
+use Rattle.rules.specs.General.{every}
+use Rattle.rules.specs.Numbers.{storeLeast, parameterMost, addressMost, dataMost}
 use Rattle.rules.specs.Refusals.{Check, _when_, accepted, judged}
-use Rattle.rules.specs.Layout.{fieldsOf, readingChecks}
+use Rattle.rules.specs.Layout.{isAlone, fieldsOf, readingChecks}
 use Rattle.rules.specs.Records.{recordLength}
-use Rattle.rules.specs.Places.{placeOf, lowestFree, isAt, placeAt}
-use Rattle.rules.specs.Soundness.{sound}
-use Rattle.rules.specs.Receiving.{keyOf, informationOf, lineOf, lineAt, isStart, Reception, segmentChecks, segment}
-use Rattle.rules.specs.Promises.{OfSegment}
+use Rattle.rules.specs.Places.{noPlace, freePlace, isOpen, placeOf, lowestFree, isAt, placeAt}
+use Rattle.rules.specs.Soundness.{freeSound, placeSound, sound}
+use Rattle.rules.proofs.Held.{open-is, places-sound}
+use Rattle.rules.proofs.Soundness.{open-parts}
+use Rattle.rules.specs.declared.Entry.{Entry}
+use Rattle.rules.specs.Receiving.{keyOf, informationOf, lineOf, lineAt, isStart, effectOf, Reception, receptionOf, segmentChecks, segment}
 use Rattle.rules.proofs.Refusals.{judged-append, judged-then}
 use Rattle.rules.proofs.Reading.{parameter-short, address-short}
 use Rattle.parameter.specs.Reading.{reading}
@@ -21,37 +26,148 @@ use Rattle.parameter.specs.declared.Reading.the-variants.{Read, Refused}
 use Rattle.rules.specs.declared.Key.{Key}
 use Rattle.rules.specs.declared.Place.{Place}
 use Rattle.rules.specs.declared.Table.{Table}
+use Rattle.rules.specs.declared.Heading.{Heading}
 use Rattle.rules.specs.declared.Fields.{Fields}
 use Rattle.rules.specs.declared.Found.{Found}
+use Rattle.rules.specs.declared.Found.the-variants.{At}
 use Rattle.rules.specs.declared.Line.{Line}
-use Rattle.rules.specs.declared.Received.{Received}
-use Rattle.lines.specs.Carried.{carriedOut, Leaves}
-use Rattle.joining.specs.Arrival.{refusedAs, arrival}
+use Rattle.rules.specs.declared.Line.the-variants.{Unsegmented, Broken, Restart, Start, Final, Next}
+use Rattle.lines.specs.Carried.{foundIf, heldIf, carriedAt, answerOf, Leads, Tells}
+use Rattle.lines.proofs.Stepping.{kept}
+use Rattle.lines.specs.declared.Step.{Step}
+use Rattle.joining.specs.Arrival.{refusedAs, refusedWith, Seeks, arrival}
+use Rattle.joining.specs.declared.Sought.{Sought}
 
-pub leaves-as : {o o′ : Reception} {r : Received} {st rp : List ℕ} → o ≡ o′ → Leaves o r st rp → Leaves o′ r st rp
-leaves-as {o} {o′} {r} {st} {rp} e l =
+pub leads-as : {o o′ : Reception} {t : Table} {at : ℕ} {r : Step} {st rp : List ℕ} → o ≡ o′ → Leads o t at r st rp → Leads o′ t at r st rp
+leads-as {o} {o′} {t} {at} {r} {st} {rp} e l =
     record {
       answered = l .answered ∙ ap (λ (x : Reception). x .answer) e;
       stored = l .stored ∙ ap (λ (x : Reception). x .store) e;
       reported = l .reported ∙ ap (λ (x : Reception). x .report) e;
     }
 
--- what the steps find of a segment with fields f
-module _ (t : Table) (store report : List ℕ) (association : ℕ) (s : List ℕ) (f : Fields) (key : Key) (octets : List ℕ) (place room : Found) (p : Place) (line : Line)
-    (ek : key ≡ keyOf association s f) (eo : octets ≡ drop (f .information) s) (ep : place ≡ placeOf key (t .places)) (er : room ≡ lowestFree (t .places))
-    (ea : p ≡ placeAt (t .places) place) (el : line ≡ lineOf (isAt place) (p .remaining .0) (p .octets) (f .heading) (length octets)) where
-  pub is-full : (isStart line && not (isAt room)) ≡ true → refusedAs t store report 10 ≡ arrival t store report association s f
-  unfolding arrival
-  is-full e = simp (rw (el, ea, ep, ek, eo, er) at e)
+-- a refusal writes back what the place holds
+pub refuses : (t : Table) (store report : List ℕ) (at n : ℕ) (held : Place) (r : Step) → held ≡ getD (t .places) at noPlace → r ≡ refusedWith n held
+    → Leads (refusedAs t store report n) t at r store report
+refuses t store report at n held r there e =
+    record {
+      answered = ap (answerOf t at) e ∙ rw (kept (t .places) at held there);
+      stored = refl;
+      reported = refl;
+    }
 
-  pub has-room : (isStart line && not (isAt room)) ≡ false → carriedOut line t store report key f octets place p room ≡ arrival t store report association s f
+-- where no sequence is open, what it would hold does not matter to the line
+line-closed : (a b x y : ℕ) (g : Heading) (n : ℕ) → lineOf false a x g n ≡ lineOf false b y g n
+unfolding lineOf
+line-closed a b x y g n = refl
+
+line-alone : (isOpen : Bool) (a x : ℕ) (g : Heading) (n : ℕ) → isAlone (g .new) (g .remaining .0) ≡ true → lineOf isOpen a x g n ≡ Unsegmented
+unfolding lineOf
+line-alone isOpen a x g n e = simp e
+
+-- a line that touches places does the same by the one place that a segment is about
+module _ (t : Table) (store : List ℕ) (key : Key) (f : Fields) (octets : List ℕ) (at : ℕ) (found : Bool) (held : Place) (place room : Found) (p : Place)
+    (ep : place ≡ foundIf found at) (eh : p ≡ heldIf found held) where
+  effect-is : (line : Line) → (isStart line ≡ true → room ≡ At at)
+      → effectOf line t store key f octets (foundIf found at) (heldIf found held) (At at) ≡ effectOf line t store key f octets place p room
+  unfolding effectOf
+  effect-is Unsegmented free = refl
+  effect-is (Broken cause) free = rw (ep, eh)
+  effect-is Restart free = rw (ep, eh)
+  effect-is Start free = rw (free refl)
+  effect-is Final free = rw (ep, eh)
+  effect-is Next free = rw (ep, eh)
+
+saved-is : (ps : List Place) (at : ℕ) (found : Bool) (held : Place) (place : Found) → place ≡ foundIf found at → held ≡ getD ps at noPlace → placeAt ps place ≡ heldIf found held
+saved-is ps at true held place e h = rw e (sym h)
+saved-is ps at false held place e h = rw e
+
+-- what the steps find of a segment
+module _ (t : Table) (store report : List ℕ) (f : Fields) (octets : List ℕ) (q : Sought) (held : Place) (line : Line)
+    (seeks : Seeks t (q .key) (f .heading) q) (there : held ≡ getD (t .places) (q .at) noPlace)
+    (el : line ≡ lineOf (q .found) (held .remaining .0) (held .octets) (f .heading) (length octets)) (tells : Tells (q .found) (held .octets) (length octets) line) where
+  line-at : isAlone (f .heading .new) (f .heading .remaining .0) ≡ false → line ≡ lineAt t (q .key) (f .heading) (length octets)
+  line-at a = el ∙ go (q .found) (seeks .points a .open-at)
+    where
+      go : (b : Bool) → placeOf (q .key) (t .places) ≡ foundIf b (q .at)
+          → lineOf b (held .remaining .0) (held .octets) (f .heading) (length octets) ≡ lineAt t (q .key) (f .heading) (length octets)
+      go true e = rw (e, there)
+      go false e = rw e (line-closed (held .remaining .0) (freePlace .remaining .0) (held .octets) (freePlace .octets) (f .heading) (length octets))
+
+  alone-line : isAlone (f .heading .new) (f .heading .remaining .0) ≡ true → line ≡ Unsegmented
+  alone-line a = el ∙ line-alone (q .found) (held .remaining .0) (held .octets) (f .heading) (length octets) a
+
+  free-at : isAlone (f .heading .new) (f .heading .remaining .0) ≡ false → (isStart line && not (q .room)) ≡ false → isStart line ≡ true → lowestFree (t .places) ≡ At (q .at)
+  free-at a e start = seeks .points a .free-at (closed line tells start) (roomy (q .room) (simp start at e))
+    where
+      closed : (l : Line) → Tells (q .found) (held .octets) (length octets) l → isStart l ≡ true → q .found ≡ false
+      closed Unsegmented z h = absurd (true≢false (sym h))
+      closed (Broken cause) z h = absurd (true≢false (sym h))
+      closed Restart z h = absurd (true≢false (sym h))
+      closed Start z h = z
+      closed Final z h = absurd (true≢false (sym h))
+      closed Next z h = absurd (true≢false (sym h))
+
+      roomy : (b : Bool) → not b ≡ false → b ≡ true
+      roomy true h = refl
+      roomy false h = absurd (true≢false h)
+
+  pub is-full : (isStart line && not (q .room)) ≡ true → refusedAs t store report 10 ≡ arrival t store report (q .key) f octets
   unfolding arrival
-  has-room e = rw (el, ea, ep, ek, eo, er) (simp (rw (el, ea, ep, ek, eo, er) at e))
+  is-full e = go (isAlone (f .heading .new) (f .heading .remaining .0)) refl
+    where
+      go : (b : Bool) → isAlone (f .heading .new) (f .heading .remaining .0) ≡ b → refusedAs t store report 10 ≡ arrival t store report (q .key) f octets
+      go true a = absurd (true≢false (sym (simp (alone-line a) at e)))
+      go false a = simp (rw (line-at a, seeks .points a .has-room) at e)
+
+  pub is-carried : (isStart line && not (q .room)) ≡ false → carriedAt line t store report (q .key) f octets (q .at) (q .found) held ≡ arrival t store report (q .key) f octets
+  unfolding carriedAt arrival effectOf
+  is-carried e = go (isAlone (f .heading .new) (f .heading .remaining .0)) refl
+    where
+      go : (b : Bool) → isAlone (f .heading .new) (f .heading .remaining .0) ≡ b
+          → carriedAt line t store report (q .key) f octets (q .at) (q .found) held ≡ arrival t store report (q .key) f octets
+      go true a = rw (alone-line a, line-alone (isAt (placeOf (q .key) (t .places))) (placeAt (t .places) (placeOf (q .key) (t .places)) .remaining .0) (placeAt (t .places) (placeOf (q .key) (t .places)) .octets) (f .heading) (length octets) a)
+      go false a =
+          let place : Found = placeOf (q .key) (t .places) in
+          let same = effect-is t store (q .key) f octets (q .at) (q .found) held place (lowestFree (t .places)) (placeAt (t .places) place)
+          (seeks .points a .open-at) (saved-is (t .places) (q .at) (q .found) held place (seeks .points a .open-at) there) line (free-at a e) in
+          ap (receptionOf t report) same ∙ rw (← line-at a) (simp (rw (seeks .points a .has-room) at e))
+
+-- a place of a sound table that is not open is free, and holds nothing
+free-zero : (registry : List Entry) (timer clock : ℕ) (p : Place) → placeSound registry timer clock p ≡ true → isOpen p ≡ false → (p .octets ≡ 0) × (p .segments ≡ 0)
+unfolding freeSound
+free-zero registry timer clock p e o =
+    let free = simp o at e in
+    let all = simp and-eq-true-iff at free in
+    (eqb-true _ _ (all .1 .0 .0 .0 .0 .0 .1), eqb-true _ _ (all .1 .0 .1))
+
+-- what a place of a sound table holds
+pub record Fit (p : Place) : Type 0 where
+  pub octets : p .octets ≤ dataMost
+  pub segments : p .segments ≤ 9
+
+every-get : {A : Type 0} (f : A → Bool) (l : List A) (d : A) (i : ℕ) → every f l ≡ true → f d ≡ true → f (getD l i d) ≡ true
+every-get f [] d i e h = h
+every-get f (x ∷ l) d zero e h = and-eq-true-iff (f x) (every f l) .0 e .0
+every-get f (x ∷ l) d (suc i) e h = every-get f l d i (and-eq-true-iff (f x) (every f l) .0 e .1) h
+
+pub fit : (t : Table) (i : ℕ) → sound t ≡ true → Fit (getD (t .places) i noPlace)
+unfolding freeSound
+fit t i s =
+    go (getD (t .places) i noPlace) (every-get (placeSound (t .registry) (t .timer) (t .clock)) (t .places) noPlace i (places-sound t s) refl) (isOpen (getD (t .places) i noPlace)) refl
+  where
+    go : (p : Place) → placeSound (t .registry) (t .timer) (t .clock) p ≡ true → (b : Bool) → isOpen p ≡ b → Fit p
+    go p ok true o =
+        let all = open-parts (t .registry) (t .timer) (t .clock) p (open-is (t .registry) (t .timer) (t .clock) p ok o) in
+        let count = all .count in
+        let left = all .left in
+        record { octets = all .octets; segments = omega arith }
+    go p ok false o = let z = free-zero (t .registry) (t .timer) (t .clock) p ok o in record { octets = omega (arith, z .0); segments = omega (arith, z .1) }
 
 -- after the first checks, reading; after reading, the arrival
 abbrev pub afterReading : Table → List ℕ → List ℕ → ℕ → List ℕ → Reading → Reception
 afterReading t store report association s (Refused n) = refusedAs t store report n
-afterReading t store report association s (Read f) = arrival t store report association s f
+afterReading t store report association s (Read f) = arrival t store report (keyOf association s f) f (informationOf s f)
 
 abbrev pub areaChecks : Table → List ℕ → List ℕ → List Check
 areaChecks t store report =
@@ -62,7 +178,7 @@ areaChecks t store report =
 
 pub segment-is : (t : Table) (store report : List ℕ) (association : ℕ) (s : List ℕ) → segment t store report association s
     ≡ judged (areaChecks t store report) (refusedAs t store report) (afterReading t store report association s (reading (t .registry) s))
-unfolding segment segmentChecks reading arrival carriedOut
+unfolding segment segmentChecks reading arrival
 segment-is t store report association s =
     let f : Fields = fieldsOf (t .registry) s in
     let key : Key = keyOf association s f in
@@ -87,10 +203,11 @@ read-short t s f e = go (accepted (readingChecks (t .registry) s)) refl
     go true a =
         let same : fieldsOf (t .registry) s ≡ f = let same-read = simp a at e in cc in
         record { parameter = parameter-short (t .registry) s a; address = rw same at (address-short (t .registry) s a) }
-    go false a = let z : _≡_ {A = ℕ} 0 1 = let other = simp a at e in cc in absurd (let y : ⊥ = omega native.Mathlib.Omega.arith in y)
+    go false a = let z : _≡_ {A = ℕ} 0 1 = let other = simp a at e in cc in absurd (let y : ⊥ = omega arith in y)
 
-pub as-segment : (t : Table) (store report : List ℕ) (association : ℕ) (s : List ℕ) (o : Reception) (r : Received) (st rp : List ℕ)
-    → segment t store report association s ≡ o → Leaves o r st rp → OfSegment t store report association s r st rp
-as-segment t store report association s o r st rp e l =
-    let m = leaves-as (sym e) l in
-    record { answered = m .answered; stored = m .stored; reported = m .reported }
+-- readings that are one have one number or the same fields
+pub read-same : (f g : Fields) → _≡_ {A = Reading} (Read f) (Read g) → f ≡ g
+read-same f g e = cc
+
+pub refused-read : (n : ℕ) (f : Fields) → _≡_ {A = Reading} (Refused n) (Read f) → ⊥
+refused-read n f e = let z : _≡_ {A = ℕ} 0 1 = cc in (let y : ⊥ = omega arith in y)

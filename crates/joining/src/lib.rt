@@ -1,22 +1,36 @@
 // Segments joined: the segment call, and the delivery of what was joined.
+use lines::Step;
 use parameter::Reading;
 use rules::Decision;
 use rules::Fields;
 use rules::Key;
 use rules::Part;
+use rules::Place;
 use rules::Received;
 use rules::Table;
 ghost use mathlib.Core.Path.{_≡_};
-ghost use mathlib.Core.Bool.{true};
-ghost use Prim.Native.Nat.{_≤_};
-ghost use lib.ListN.{length};
-ghost use Rattle.rules.specs.Numbers.{storeLeast, addressMost};
-ghost use Rattle.rules.specs.Receiving.{keyOf};
+ghost use mathlib.Core.Bool.{true, false};
+ghost use Prim.Native.Nat.{_≤_, _<_};
+ghost use lib.ListN.{length, getD};
+ghost use Rattle.rules.specs.Numbers.{storeLeast, addressMost, placeCount};
+ghost use Rattle.rules.specs.Places.{noPlace, placeOf, lowestFree};
+ghost use Rattle.rules.specs.Receiving.{keyOf, informationOf, segment};
 ghost use Rattle.rules.specs.Soundness.{sound};
 ghost use Rattle.rules.specs.Delivery.{partOf, partOfPlace, delivery};
 ghost use Rattle.rules.specs.Promises.{OfSegment};
-ghost use Rattle.lines.specs.Carried.{Leaves};
-ghost use Rattle.joining.specs.Arrival.{arrival};
+ghost use Rattle.parameter.specs.Reading.{reading};
+ghost use Rattle.table.specs.Seeking.{Points};
+ghost use Rattle.lines.specs.Carried.{Leads};
+ghost use Rattle.joining.specs.Arrival.{refusedWith, searchOf, Seeks, arrival};
+
+// A parameter's reading, its key, and the place that it is about (see Search).
+pub struct Sought {
+    pub reading: Reading,
+    pub key: Key,
+    pub at: usize,
+    pub found: bool,
+    pub room: bool,
+}
 
 // The key of a segment's sequence: its originating address is copied, zero filled.
 fn key_of(association: u16, s: &[u8], f: Fields) -> Key
@@ -39,15 +53,67 @@ fn key_of(association: u16, s: &[u8], f: Fields) -> Key
     }
 }
 
-// A refusal: the table as it came, and nothing else.
-fn refused(t: Table, number: u8) -> Received
-    ensures { λ r. ⌜ r ≡ record { table = t; decision = Decision.Refused; refusal = number; records = 0 } ⌝ }
+// A refusal: the place stays as it is.
+fn refused(number: u8, held: Place) -> Step
+    ensures { λ r. ⌜ r ≡ refusedWith number held ⌝ }
 {
-    Received {
-        table: t,
+    Step {
+        put: held,
         decision: Decision::Refused,
         refusal: number,
         records: 0,
+    }
+}
+
+// A parameter that touches no place.
+fn nowhere(reading: Reading, key: Key) -> Sought
+    ensures { λ r. ⌜ r ≡ record { reading = reading; key = key; at = 0; found = false; room = false } ⌝ }
+{
+    Sought {
+        reading,
+        key,
+        at: 0,
+        found: false,
+        room: false,
+    }
+}
+
+// A parameter that was read, with the place that it is about.
+fn placed(places: [Place; 16], reading: Reading, key: Key) -> Sought
+    ensures { λ r. ⌜ (r .reading ≡ reading) × (Points (placeOf key places) (lowestFree places) (searchOf r) × (r .key ≡ key)) ⌝ }
+{
+    let search = table::search_for(places, key);
+    Sought {
+        reading,
+        key,
+        at: search.at,
+        found: search.found,
+        room: search.room,
+    }
+}
+
+// Reads a parameter, and seeks the place that it is about. An unsegmented one touches no place.
+fn seek(t: Table, association: u16, s: &[u8]) -> Sought
+    ensures { λ r. ⌜ (r .reading ≡ reading (t .registry) (now (s .entry))) × (r .at < placeCount) ⌝ }
+    ensures { λ r. ⌜ ((f : Fields) → r .reading ≡ Reading.Read f → Seeks t (keyOf association (now (s .entry)) f) (f .heading) r) ⌝ }
+{
+    let registry = t.registry;
+    let reading = parameter::read(registry, s);
+    match reading {
+        Reading::Refused(_) => {
+            let free = table::free_place();
+            let key = free.key;
+            nowhere(reading, key)
+        }
+        Reading::Read(f) => {
+            let key = key_of(association, s, f);
+            let alone = f.heading.new & (f.heading.remaining.0 == 0);
+            if alone {
+                return nowhere(reading, key);
+            }
+            let places = t.places;
+            placed(places, reading, key)
+        }
     }
 }
 
@@ -56,40 +122,62 @@ fn arrive(
     t: Table,
     store: &mut [u8],
     report: &mut [u8],
-    association: u16,
     s: &[u8],
     f: Fields,
-) -> Received
-    requires { ⌜ sound t ≡ true ⌝ }
-    requires { ⌜ storeLeast ≤ length (now store) ⌝ }
-    requires { ⌜ (length (now s) ≤ 255) × (f .length ≤ addressMost) ⌝ }
-    ensures { λ r. ⌜ Leaves (arrival t (now (store .entry)) (now (report .entry)) association (now (s .entry)) f) r (now (store .exit)) (now (report .exit)) ⌝ }
+    q: Sought,
+    held: Place,
+) -> Step
+    requires { ⌜ (sound t ≡ true) × (storeLeast ≤ length (now store)) ⌝ }
+    requires { ⌜ (length (now s) ≤ 255) × Seeks t (q .key) (f .heading) q ⌝ }
+    requires { ⌜ (q .at < placeCount) × (held ≡ getD (t .places) (q .at) noPlace) ⌝ }
+    ensures { λ r. ⌜ Leads (arrival t (now (store .entry)) (now (report .entry)) (q .key) f (informationOf (now (s .entry)) f)) t (q .at) r (now (store .exit)) (now (report .exit)) ⌝ }
 {
-    let key = key_of(association, s, f);
     let from = f.information;
     let octets = parameter::tail(s, from);
-    let places = t.places;
-    let found = table::search_for(places, key);
-    let place = found.place;
-    let room = found.room;
-    let p = lines::place_at(places, place);
     let heading = f.heading;
-    let remaining = p.remaining;
-    let line = lines::line_of(
-        lines::is_at(place),
-        remaining,
-        p.octets,
-        heading,
-        octets.len(),
-    );
-    let full = lines::starts(line) & !lines::is_at(room);
+    let remaining = held.remaining;
+    let line = lines::line_of(q.found, remaining, held.octets, heading, octets.len());
+    let full = lines::starts(line) & !q.room;
     if full {
-        return refused(t, 10);
+        return refused(10, held);
     }
-    lines::carry_out(line, t, store, report, key, f, octets, place, p, room)
+    let key = q.key;
+    lines::carry_out(line, t, store, report, key, f, octets, q.at, q.found, held)
 }
 
-// A segment arrives.
+// What becomes of a segment at a table, whether sound or not.
+fn step(
+    t: Table,
+    is_sound: bool,
+    store: &mut [u8],
+    report: &mut [u8],
+    association: u16,
+    s: &[u8],
+    q: Sought,
+    held: Place,
+) -> Step
+    requires { ⌜ «is_sound» ≡ sound t ⌝ }
+    requires { ⌜ (q .reading ≡ reading (t .registry) (now s)) × ((f : Fields) → q .reading ≡ Reading.Read f → Seeks t (keyOf association (now s) f) (f .heading) q) ⌝ }
+    requires { ⌜ (q .at < placeCount) × (held ≡ getD (t .places) (q .at) noPlace) ⌝ }
+    ensures { λ r. ⌜ Leads (segment t (now (store .entry)) (now (report .entry)) association (now (s .entry))) t (q .at) r (now (store .exit)) (now (report .exit)) ⌝ }
+{
+    if !is_sound {
+        return refused(1, held);
+    }
+    if store.len() < 32768 {
+        return refused(2, held);
+    }
+    if report.len() < 32 {
+        return refused(3, held);
+    }
+    let reading = q.reading;
+    match reading {
+        Reading::Refused(number) => refused(number, held),
+        Reading::Read(f) => arrive(t, store, report, s, f, q, held),
+    }
+}
+
+// A segment arrives. The table is copied once, and one place of the copy is written.
 pub fn segment(
     t: Table,
     store: &mut [u8],
@@ -99,19 +187,20 @@ pub fn segment(
 ) -> Received
     ensures { λ r. ⌜ OfSegment t (now (store .entry)) (now (report .entry)) association (now (s .entry)) r (now (store .exit)) (now (report .exit)) ⌝ }
 {
-    if !soundness::is_sound(t) {
-        return refused(t, 1);
-    }
-    if store.len() < 32768 {
-        return refused(t, 2);
-    }
-    if report.len() < 32 {
-        return refused(t, 3);
-    }
-    let registry = t.registry;
-    match parameter::read(registry, s) {
-        Reading::Refused(number) => refused(t, number),
-        Reading::Read(f) => arrive(t, store, report, association, s, f),
+    let mut next = t;
+    let is_sound = soundness::is_sound(t);
+    let q = seek(t, association, s);
+    let at = q.at;
+    let held = next.places[at];
+    let r = step(t, is_sound, store, report, association, s, q, held);
+    let put = r.put;
+    next.places[at] = put;
+    let decision = r.decision;
+    Received {
+        table: next,
+        decision,
+        refusal: r.refusal,
+        records: r.records,
     }
 }
 

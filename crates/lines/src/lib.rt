@@ -7,39 +7,24 @@ use rules::Key;
 use rules::Line;
 use rules::Part;
 use rules::Place;
-use rules::Received;
 use rules::Record;
 use rules::Remaining;
 use rules::Table;
 ghost use mathlib.Core.Path.{_≡_};
-ghost use mathlib.Core.Bool.{true};
 ghost use Prim.Native.Nat.{_+_, _≤_, _<_};
 ghost use lib.ListN.{length};
 ghost use Rattle.rules.specs.General.{if_then_else_};
 ghost use Rattle.rules.specs.Numbers.{stretchLength, storeLeast, placeCount};
-ghost use Rattle.rules.specs.Places.{isAt, numberOf, placeAt, putPlace};
-ghost use Rattle.rules.specs.Receiving.{lineOf, isStart, openPlace, begun, recordWith, saveAt, withPlaces};
-ghost use Rattle.table.specs.Inside.{Inside};
-ghost use Rattle.lines.specs.Carried.{carriedOut, Leaves, Tells, Ready};
+ghost use Rattle.rules.specs.Places.{freePlace};
+ghost use Rattle.rules.specs.Receiving.{lineOf, isStart, openPlace, begun, recordWith, saveAt};
+ghost use Rattle.lines.specs.Carried.{foundIf, heldIf, Leads, Tells, Ready, carriedAt};
 
-// Whether a place was found.
-pub fn is_at(f: Found) -> bool
-    ensures { λ r. ⌜ r ≡ isAt f ⌝ }
-{
-    match f {
-        Found::At(_) => true,
-        Found::Nothing => false,
-    }
-}
-
-// Its number; none is past the last.
-fn number_of(f: Found) -> usize
-    ensures { λ r. ⌜ r ≡ numberOf f ⌝ }
-{
-    match f {
-        Found::At(i) => i,
-        Found::Nothing => 16,
-    }
+// What becomes of a segment: what its place holds afterwards, and the answer but for the table.
+pub struct Step {
+    pub put: Place,
+    pub decision: Decision,
+    pub refusal: u8,
+    pub records: u8,
 }
 
 // The line that applies: see the paper's seven.
@@ -88,32 +73,6 @@ fn save_at(store: &mut [u8], place: usize, at: usize, octets: &[u8])
     octets::put_at(&mut store[start..end], at, octets);
 }
 
-// What stands at a place; nothing is saved where none was found.
-pub fn place_at(places: [Place; 16], place: Found) -> Place
-    requires { ⌜ Inside place ⌝ }
-    ensures { λ r. ⌜ r ≡ placeAt places place ⌝ }
-{
-    match place {
-        Found::At(i) => places[i],
-        Found::Nothing => table::free_place(),
-    }
-}
-
-// The table with another place there.
-fn with_place(t: Table, place: Found, p: Place) -> Table
-    requires { ⌜ Inside place ⌝ }
-    ensures { λ r. ⌜ r ≡ withPlaces t (putPlace (t .places) place p) ⌝ }
-{
-    let mut next = t;
-    match place {
-        Found::At(i) => {
-            next.places[i] = p;
-            next
-        }
-        Found::Nothing => next,
-    }
-}
-
 // An open place after a segment.
 fn open_place(
     key: Key,
@@ -150,22 +109,52 @@ fn record_with(kind: u8, cause: u8, key: Key, instruction: u8, segments: u8, oct
     }
 }
 
-// The instruction of a sequence: its first segment's, or this one's where none is open.
-fn instruction_of(place: Found, p: Place, f: Fields) -> u8
-    ensures { λ r. ⌜ r ≡ (if isAt place then p .instruction else f .heading .instruction) ⌝ }
+// The place as a decision names it; none where the sequence is not open.
+fn found_if(is_open: bool, at: usize) -> Found
+    ensures { λ r. ⌜ r ≡ foundIf «is_open» at ⌝ }
 {
-    if is_at(place) {
-        return p.instruction;
+    if is_open {
+        return Found::At(at);
+    }
+    Found::Nothing
+}
+
+// What was saved: nothing where the sequence is not open.
+fn held_if(is_open: bool, held: Place) -> Place
+    ensures { λ r. ⌜ r ≡ heldIf «is_open» held ⌝ }
+{
+    if is_open {
+        return held;
+    }
+    table::free_place()
+}
+
+// The place of a sequence that is lost: free. Where none is open the place stays as it is.
+fn freed_if(is_open: bool, held: Place) -> Place
+    ensures { λ r. ⌜ r ≡ (if «is_open» then freePlace else held) ⌝ }
+{
+    if is_open {
+        return table::free_place();
+    }
+    held
+}
+
+// The instruction of a sequence: its first segment's, or this one's where none is open.
+fn instruction_of(is_open: bool, held: Place, f: Fields) -> u8
+    ensures { λ r. ⌜ r ≡ (if «is_open» then held .instruction else f .heading .instruction) ⌝ }
+{
+    if is_open {
+        return held.instruction;
     }
     f.heading.instruction
 }
 
-// The answer of a call that was not refused.
-fn received(table: Table, decision: Decision, records: u8) -> Received
-    ensures { λ r. ⌜ r ≡ record { table = table; decision = decision; refusal = 0; records = records } ⌝ }
+// A step that was not refused.
+fn taken(put: Place, decision: Decision, records: u8) -> Step
+    ensures { λ r. ⌜ r ≡ record { put = put; decision = decision; refusal = 0; records = records } ⌝ }
 {
-    Received {
-        table,
+    Step {
+        put,
         decision,
         refusal: 0,
         records,
@@ -190,12 +179,12 @@ fn unsegmented(
     key: Key,
     f: Fields,
     octets: &[u8],
-    place: Found,
-    p: Place,
-    room: Found,
-) -> Received
-    requires { ⌜ Ready (now store) (now octets) place p room ⌝ }
-    ensures { λ r. ⌜ Leaves (carriedOut Line.Unsegmented t (now (store .entry)) (now (report .entry)) key f (now (octets .entry)) place p room) r (now (store .exit)) (now (report .exit)) ⌝ }
+    at: usize,
+    is_open: bool,
+    held: Place,
+) -> Step
+    requires { ⌜ Ready t (now store) (now octets) at held ⌝ }
+    ensures { λ r. ⌜ Leads (carriedAt Line.Unsegmented t (now (store .entry)) (now (report .entry)) key f (now (octets .entry)) at «is_open» held) t at r (now (store .exit)) (now (report .exit)) ⌝ }
 {
     let n = octets.len();
     let heading = f.heading;
@@ -205,7 +194,7 @@ fn unsegmented(
         start: f.information,
         length: n,
     };
-    received(t, Decision::Delivered(part), 1)
+    taken(held, Decision::Delivered(part), 1)
 }
 
 // Lines 1, 4, 5 and 6: what was saved, if anything, and this segment are lost.
@@ -217,19 +206,20 @@ fn broken(
     key: Key,
     f: Fields,
     octets: &[u8],
-    place: Found,
-    p: Place,
-    room: Found,
-) -> Received
-    requires { ⌜ Ready (now store) (now octets) place p room ⌝ }
-    ensures { λ r. ⌜ Leaves (carriedOut (Line.Broken cause) t (now (store .entry)) (now (report .entry)) key f (now (octets .entry)) place p room) r (now (store .exit)) (now (report .exit)) ⌝ }
+    at: usize,
+    is_open: bool,
+    held: Place,
+) -> Step
+    requires { ⌜ Ready t (now store) (now octets) at held ⌝ }
+    ensures { λ r. ⌜ Leads (carriedAt (Line.Broken cause) t (now (store .entry)) (now (report .entry)) key f (now (octets .entry)) at «is_open» held) t at r (now (store .exit)) (now (report .exit)) ⌝ }
 {
     let n = octets.len() as u16;
-    let instruction = instruction_of(place, p, f);
+    let instruction = instruction_of(is_open, held, f);
+    let p = held_if(is_open, held);
     let r = record_with(17, cause, key, instruction, p.segments + 1, p.octets + n);
     report::put_record(report, 0, r);
-    let free = table::free_place();
-    received(with_place(t, place, free), Decision::Lost(cause, place), 1)
+    let place = found_if(is_open, at);
+    taken(freed_if(is_open, held), Decision::Lost(cause, place), 1)
 }
 
 // Line 2: what was saved is lost, and this segment starts the sequence in the same place.
@@ -240,19 +230,19 @@ fn restart(
     key: Key,
     f: Fields,
     octets: &[u8],
-    place: Found,
-    p: Place,
-    room: Found,
-) -> Received
-    requires { ⌜ Ready (now store) (now octets) place p room ⌝ }
-    requires { ⌜ Tells (isAt place) (p .octets) (length (now octets)) Line.Restart ⌝ }
-    ensures { λ r. ⌜ Leaves (carriedOut Line.Restart t (now (store .entry)) (now (report .entry)) key f (now (octets .entry)) place p room) r (now (store .exit)) (now (report .exit)) ⌝ }
+    at: usize,
+    is_open: bool,
+    held: Place,
+) -> Step
+    requires { ⌜ Ready t (now store) (now octets) at held ⌝ }
+    requires { ⌜ Tells «is_open» (held .octets) (length (now octets)) Line.Restart ⌝ }
+    ensures { λ r. ⌜ Leads (carriedAt Line.Restart t (now (store .entry)) (now (report .entry)) key f (now (octets .entry)) at «is_open» held) t at r (now (store .exit)) (now (report .exit)) ⌝ }
 {
-    let r = record_with(17, 3, key, p.instruction, p.segments, p.octets);
+    let r = record_with(17, 3, key, held.instruction, held.segments, held.octets);
     report::put_record(report, 0, r);
-    save_at(store, number_of(place), 0, octets);
+    save_at(store, at, 0, octets);
     let next = begun_place(t, key, f, octets.len());
-    received(with_place(t, place, next), Decision::Lost(3, place), 1)
+    taken(next, Decision::Lost(3, Found::At(at)), 1)
 }
 
 // Line 3: saved in the place for a new sequence.
@@ -263,18 +253,16 @@ fn start(
     key: Key,
     f: Fields,
     octets: &[u8],
-    place: Found,
-    p: Place,
-    room: Found,
-) -> Received
-    requires { ⌜ Ready (now store) (now octets) place p room ⌝ }
-    requires { ⌜ isAt room ≡ true ⌝ }
-    ensures { λ r. ⌜ Leaves (carriedOut Line.Start t (now (store .entry)) (now (report .entry)) key f (now (octets .entry)) place p room) r (now (store .exit)) (now (report .exit)) ⌝ }
+    at: usize,
+    is_open: bool,
+    held: Place,
+) -> Step
+    requires { ⌜ Ready t (now store) (now octets) at held ⌝ }
+    ensures { λ r. ⌜ Leads (carriedAt Line.Start t (now (store .entry)) (now (report .entry)) key f (now (octets .entry)) at «is_open» held) t at r (now (store .exit)) (now (report .exit)) ⌝ }
 {
-    let number = number_of(room);
-    save_at(store, number, 0, octets);
+    save_at(store, at, 0, octets);
     let next = begun_place(t, key, f, octets.len());
-    received(with_place(t, room, next), Decision::Saved(number), 0)
+    taken(next, Decision::Saved(at), 0)
 }
 
 // Line 7, none remaining: saved too, and delivered.
@@ -285,27 +273,33 @@ fn finish(
     key: Key,
     f: Fields,
     octets: &[u8],
-    place: Found,
-    p: Place,
-    room: Found,
-) -> Received
-    requires { ⌜ Ready (now store) (now octets) place p room ⌝ }
-    requires { ⌜ Tells (isAt place) (p .octets) (length (now octets)) Line.Final ⌝ }
-    ensures { λ r. ⌜ Leaves (carriedOut Line.Final t (now (store .entry)) (now (report .entry)) key f (now (octets .entry)) place p room) r (now (store .exit)) (now (report .exit)) ⌝ }
+    at: usize,
+    is_open: bool,
+    held: Place,
+) -> Step
+    requires { ⌜ Ready t (now store) (now octets) at held ⌝ }
+    requires { ⌜ Tells «is_open» (held .octets) (length (now octets)) Line.Final ⌝ }
+    ensures { λ r. ⌜ Leads (carriedAt Line.Final t (now (store .entry)) (now (report .entry)) key f (now (octets .entry)) at «is_open» held) t at r (now (store .exit)) (now (report .exit)) ⌝ }
 {
-    let number = number_of(place);
     let n = octets.len();
-    let saved = p.octets as usize;
-    save_at(store, number, saved, octets);
+    let saved = held.octets as usize;
+    save_at(store, at, saved, octets);
     let total = saved + n;
-    let r = record_with(16, 0, key, p.instruction, p.segments + 1, total as u16);
+    let r = record_with(
+        16,
+        0,
+        key,
+        held.instruction,
+        held.segments + 1,
+        total as u16,
+    );
     report::put_record(report, 0, r);
     let free = table::free_place();
     let part = Part::OfStore {
-        place: number,
+        place: at,
         length: total,
     };
-    received(with_place(t, place, free), Decision::Delivered(part), 1)
+    taken(free, Decision::Delivered(part), 1)
 }
 
 // Line 7, more remaining: saved.
@@ -316,30 +310,29 @@ fn go_on(
     key: Key,
     f: Fields,
     octets: &[u8],
-    place: Found,
-    p: Place,
-    room: Found,
-) -> Received
-    requires { ⌜ Ready (now store) (now octets) place p room ⌝ }
-    requires { ⌜ Tells (isAt place) (p .octets) (length (now octets)) Line.Next ⌝ }
-    ensures { λ r. ⌜ Leaves (carriedOut Line.Next t (now (store .entry)) (now (report .entry)) key f (now (octets .entry)) place p room) r (now (store .exit)) (now (report .exit)) ⌝ }
+    at: usize,
+    is_open: bool,
+    held: Place,
+) -> Step
+    requires { ⌜ Ready t (now store) (now octets) at held ⌝ }
+    requires { ⌜ Tells «is_open» (held .octets) (length (now octets)) Line.Next ⌝ }
+    ensures { λ r. ⌜ Leads (carriedAt Line.Next t (now (store .entry)) (now (report .entry)) key f (now (octets .entry)) at «is_open» held) t at r (now (store .exit)) (now (report .exit)) ⌝ }
 {
-    let number = number_of(place);
     let n = octets.len();
-    let saved = p.octets as usize;
-    save_at(store, number, saved, octets);
+    let saved = held.octets as usize;
+    save_at(store, at, saved, octets);
     let heading = f.heading;
     let remaining = heading.remaining;
     let total = (saved + n) as u16;
     let next = open_place(
         key,
         remaining,
-        p.instruction,
-        p.segments + 1,
+        held.instruction,
+        held.segments + 1,
         total,
-        p.start,
+        held.start,
     );
-    received(with_place(t, place, next), Decision::Saved(number), 0)
+    taken(next, Decision::Saved(at), 0)
 }
 
 // What a line does.
@@ -351,22 +344,21 @@ pub fn carry_out(
     key: Key,
     f: Fields,
     octets: &[u8],
-    place: Found,
-    p: Place,
-    room: Found,
-) -> Received
-    requires { ⌜ Ready (now store) (now octets) place p room ⌝ }
-    requires { ⌜ Tells (isAt place) (p .octets) (length (now octets)) line ⌝ }
-    requires { ⌜ (isStart line ≡ true → isAt room ≡ true) ⌝ }
-    ensures { λ r. ⌜ Leaves (carriedOut line t (now (store .entry)) (now (report .entry)) key f (now (octets .entry)) place p room) r (now (store .exit)) (now (report .exit)) ⌝ }
+    at: usize,
+    is_open: bool,
+    held: Place,
+) -> Step
+    requires { ⌜ Ready t (now store) (now octets) at held ⌝ }
+    requires { ⌜ Tells «is_open» (held .octets) (length (now octets)) line ⌝ }
+    ensures { λ r. ⌜ Leads (carriedAt line t (now (store .entry)) (now (report .entry)) key f (now (octets .entry)) at «is_open» held) t at r (now (store .exit)) (now (report .exit)) ⌝ }
 {
     match line {
-        Line::Unsegmented => unsegmented(t, store, report, key, f, octets, place, p, room),
-        Line::Broken(cause) => broken(cause, t, store, report, key, f, octets, place, p, room),
-        Line::Restart => restart(t, store, report, key, f, octets, place, p, room),
-        Line::Start => start(t, store, report, key, f, octets, place, p, room),
-        Line::Final => finish(t, store, report, key, f, octets, place, p, room),
-        Line::Next => go_on(t, store, report, key, f, octets, place, p, room),
+        Line::Unsegmented => unsegmented(t, store, report, key, f, octets, at, is_open, held),
+        Line::Broken(cause) => broken(cause, t, store, report, key, f, octets, at, is_open, held),
+        Line::Restart => restart(t, store, report, key, f, octets, at, is_open, held),
+        Line::Start => start(t, store, report, key, f, octets, at, is_open, held),
+        Line::Final => finish(t, store, report, key, f, octets, at, is_open, held),
+        Line::Next => go_on(t, store, report, key, f, octets, at, is_open, held),
     }
 }
 

@@ -3,10 +3,10 @@ use rules::Context;
 use rules::Entry;
 ghost use mathlib.Core.Path.{_≡_};
 ghost use mathlib.Core.Bool.{_||_};
-ghost use Prim.Native.Nat.{_+_};
 ghost use lib.Dec.{eqb};
 ghost use lib.ListN.{drop};
 ghost use Rattle.rules.specs.General.{every, everyTwo};
+ghost use Rattle.registry.specs.Contexts.{hasOther, contextsApart};
 ghost use Rattle.rules.specs.Registry.{kindOf, isUnused, isEntry, isUsable, entriesApart, registrySound};
 
 // The kind of a context: 1 of 1998, 2 of 2000, 0 where it is not registered.
@@ -87,14 +87,27 @@ pub fn all_apart(registry: [Entry; 8]) -> bool
     true
 }
 
-// Whether every entry is unused or in range.
+// Whether every entry is unused or in range. With no way out of the loop it takes a few instructions for each.
 fn all_usable(registry: [Entry; 8]) -> bool
     ensures { λ r. ⌜ r ≡ every isUsable registry ⌝ }
 {
+    let mut usable = true;
     let mut i = 0;
     while i < 8 {
         let e = registry[i];
-        if !(is_unused(e) | is_entry(e)) {
+        usable = usable & (is_unused(e) | is_entry(e));
+        i += 1;
+    }
+    usable
+}
+
+// Whether a context is none of those from number at on.
+fn differs_from(registry: [Entry; 8], at: usize, context: u16) -> bool
+    ensures { λ r. ⌜ r ≡ every (hasOther context) (drop at registry) ⌝ }
+{
+    let mut i = at;
+    while i < 8 {
+        if registry[i].context.0 == context {
             return false;
         }
         i += 1;
@@ -102,9 +115,27 @@ fn all_usable(registry: [Entry; 8]) -> bool
     true
 }
 
-// Whether the registry is sound.
+// Whether no context but 0 stands twice.
+fn contexts_differ(registry: [Entry; 8]) -> bool
+    ensures { λ r. ⌜ r ≡ everyTwo contextsApart registry ⌝ }
+{
+    let mut i = 0;
+    while i < 8 {
+        let context = registry[i].context.0;
+        i += 1;
+        if context == 0 {
+            continue;
+        }
+        if !differs_from(registry, i, context) {
+            return false;
+        }
+    }
+    true
+}
+
+// Whether the registry is sound. Where every entry is usable, those with context 0 are the unused ones.
 pub fn is_sound(registry: [Entry; 8]) -> bool
     ensures { λ r. ⌜ r ≡ registrySound registry ⌝ }
 {
-    all_usable(registry) & all_apart(registry)
+    all_usable(registry) & contexts_differ(registry)
 }

@@ -1,2 +1,4 @@
 pub mod Digest
+pub mod Halves
+pub mod Weights
 pub mod Zeros

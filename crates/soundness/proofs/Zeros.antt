@@ -12,7 +12,7 @@ use Rattle.rules.specs.General.{if_then_else_, every}
 use Rattle.rules.specs.Soundness.{isZero}
 use Rattle.rules.proofs.Lists.{left}
 
-sum-nought : (s x : ℕ) → eqb (s + x) 0 ≡ (eqb s 0 && eqb x 0)
+pub sum-nought : (s x : ℕ) → eqb (s + x) 0 ≡ (eqb s 0 && eqb x 0)
 sum-nought s x = go (eqb s 0) refl (eqb x 0) refl
   where
     go : (a : Bool) → eqb s 0 ≡ a → (b : Bool) → eqb x 0 ≡ b → eqb (s + x) 0 ≡ (a && b)

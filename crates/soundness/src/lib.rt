@@ -3,13 +3,16 @@ use rules::Entry;
 use rules::Place;
 use rules::Table;
 ghost use mathlib.Core.Path.{_≡_};
+ghost use mathlib.Core.Bool.{_&&_};
 ghost use mathlib.Core.List.{map};
 ghost use Prim.Native.Nat.{_≤_};
-ghost use lib.Dec.{ltb};
-ghost use lib.ListN.{drop};
-ghost use Rattle.rules.specs.General.{if_then_else_, every, everyTwo};
-ghost use Rattle.soundness.specs.Digest.{digest, digestsApart};
-ghost use Rattle.rules.specs.Soundness.{isZero, addressSound, openSound, freeSound, placeSound, placesApart, sound};
+ghost use lib.Dec.{eqb, ltb};
+ghost use lib.ListN.{take, drop};
+ghost use Rattle.rules.specs.General.{if_then_else_, every, everyTwo, those};
+ghost use Rattle.rules.specs.Places.{isOpen, isFree};
+ghost use Rattle.soundness.specs.Digest.{digest, isOther};
+ghost use Rattle.soundness.specs.Halves.{soundIfOpen, soundIfIdle};
+ghost use Rattle.rules.specs.Soundness.{isZero, addressSound, openSound, freeSound, placesApart, sound};
 
 // An octet where it stands at an index or behind it; before it 0.
 fn counted(x: u8, at: usize, i: usize) -> u16
@@ -65,34 +68,62 @@ fn open_sound(registry: [Entry; 8], timer: u32, clock: u32, p: Place) -> bool
     numbers & address & young
 }
 
-// Whether a free place is all zero.
-fn free_sound(p: Place) -> bool
-    ensures { λ r. ⌜ r ≡ freeSound p ⌝ }
+// Four octets as one number: where they stand in a row they are read at once.
+fn word(a: u8, b: u8, c: u8, d: u8) -> u64
+    ensures { λ r. ⌜ eqb r 0 ≡ (isZero a && isZero b && isZero c && isZero d) ⌝ }
+    ensures { λ r. ⌜ r ≤ 4294967295 ⌝ }
 {
-    let numbers = (p.key.association == 0)
-        & (p.key.context.0 == 0)
-        & (p.key.reference.0 == 0)
-        & (p.key.length == 0)
-        & (p.octets == 0)
-        & (p.start == 0)
-        & (p.instruction == 0)
-        & (p.remaining.0 == 0)
-        & (p.segments == 0);
-    let address = p.key.address;
-    numbers & zero_from(address, 0)
+    (a as u64) + 256 * (b as u64) + 65536 * (c as u64) + 16777216 * (d as u64)
 }
 
-// Whether a place is sound: open or free, and no other mark.
-fn place_sound(registry: [Entry; 8], timer: u32, clock: u32, p: Place) -> bool
-    ensures { λ r. ⌜ r ≡ placeSound registry timer clock p ⌝ }
+// What an address weighs: 0 where all its octets are.
+fn address_weight(a: [u8; 20]) -> u64
+    ensures { λ r. ⌜ eqb r 0 ≡ every isZero a ⌝ }
+    ensures { λ r. ⌜ r ≤ 21474836475 ⌝ }
 {
+    word(a[0], a[1], a[2], a[3])
+        + word(a[4], a[5], a[6], a[7])
+        + word(a[8], a[9], a[10], a[11])
+        + word(a[12], a[13], a[14], a[15])
+        + word(a[16], a[17], a[18], a[19])
+}
+
+// What a place weighs: 0 where it is free, and all zero.
+fn weight(p: Place) -> u64
+    ensures { λ r. ⌜ eqb r 0 ≡ (isFree p && freeSound p) ⌝ }
+    ensures { λ r. ⌜ r ≤ 38654705655 ⌝ }
+{
+    let address = p.key.address;
+    let names = (p.key.association as u64) + 65536 * (p.key.context.0 as u64);
+    let more = (p.key.reference.0 as u64) + 256 * (p.key.length as u64) + 65536 * (p.octets as u64);
+    let rest = word(p.mark, p.instruction, p.remaining.0, p.segments);
+    address_weight(address) + names + more + (p.start as u64) + rest
+}
+
+// What a place weighs where it is not open.
+fn idle_weight(p: Place) -> u64
+    ensures { λ r. ⌜ eqb r 0 ≡ soundIfIdle p ⌝ }
+    ensures { λ r. ⌜ r ≤ 38654705655 ⌝ }
+{
+    let w = weight(p);
     if p.mark == 1 {
-        return open_sound(registry, timer, clock, p);
+        return 0;
     }
-    if p.mark == 0 {
-        return free_sound(p);
+    w
+}
+
+// Whether each place that is not open is all zero. Weights are summed: with no way out the loop is unrolled, and the places are read where they are.
+fn idle_sound(places: [Place; 16]) -> bool
+    ensures { λ r. ⌜ r ≡ every soundIfIdle places ⌝ }
+{
+    let mut sum: u64 = 0;
+    let mut i = 0;
+    while i < 16 {
+        let p = places[i];
+        sum += idle_weight(p);
+        i += 1;
     }
-    false
+    sum == 0
 }
 
 // Whether two places are not open with one key.
@@ -123,47 +154,54 @@ fn apart_from(places: [Place; 16], at: usize, p: Place) -> bool
     true
 }
 
+// What is seen of the open places: their digests, one after the other, and whether each is sound.
 pub struct Seen {
     pub digests: [u64; 16],
+    pub open: usize,
     pub sound: bool,
 }
 
-// What tells most open places apart, as one number; 0 where the place is not open.
+// What tells most open places apart, as one number: of the key all but the address.
 fn digest_of(p: Place) -> u64
     ensures { λ r. ⌜ r ≡ digest p ⌝ }
 {
-    if p.mark != 1 {
-        return 0;
-    }
-    let key = (p.key.association as u64) * 65536 + (p.key.context.0 as u64);
+    let names = (p.key.association as u64) * 65536 + (p.key.context.0 as u64);
     let rest = (p.key.reference.0 as u64) * 256 + (p.key.length as u64);
-    key * 65536 + rest + 1
+    names * 65536 + rest
 }
 
-// All places in one go: whether every one is sound, and their digests.
+// The open places in one go.
 fn look_over(places: [Place; 16], registry: [Entry; 8], timer: u32, clock: u32) -> Seen
-    ensures { λ r. ⌜ r .sound ≡ every (placeSound registry timer clock) places ⌝ }
-    ensures { λ r. ⌜ r .digests ≡ map digest places ⌝ }
+    ensures { λ r. ⌜ r .sound ≡ every (soundIfOpen registry timer clock) places ⌝ }
+    ensures { λ r. ⌜ (r .open ≤ 16) × (take (r .open) (r .digests) ≡ map digest (those isOpen places)) ⌝ }
 {
     let mut digests = [0; 16];
     let mut sound = true;
+    let mut open = 0;
     let mut i = 0;
     while i < 16 {
-        let p = places[i];
-        digests[i] = digest_of(p);
-        sound = sound & place_sound(registry, timer, clock, p);
+        if places[i].mark == 1 {
+            let p = places[i];
+            digests[open] = digest_of(p);
+            sound = sound & open_sound(registry, timer, clock, p);
+            open += 1;
+        }
         i += 1;
     }
-    Seen { digests, sound }
+    Seen {
+        digests,
+        open,
+        sound,
+    }
 }
 
-// Whether a number is none of those from index at on.
-fn differs_from(digests: [u64; 16], at: usize, d: u64) -> bool
-    requires { ⌜ 1 ≤ d ⌝ }
-    ensures { λ r. ⌜ r ≡ every (digestsApart d) (drop at digests) ⌝ }
+// Whether a number is none of the first n from index at on.
+fn differs_from(digests: [u64; 16], at: usize, n: usize, d: u64) -> bool
+    requires { ⌜ n ≤ 16 ⌝ }
+    ensures { λ r. ⌜ r ≡ every (isOther d) (drop at (take n digests)) ⌝ }
 {
     let mut i = at;
-    while i < 16 {
+    while i < n {
         if digests[i] == d {
             return false;
         }
@@ -172,18 +210,16 @@ fn differs_from(digests: [u64; 16], at: usize, d: u64) -> bool
     true
 }
 
-// Whether no two of them that are not 0 are the same.
-fn all_differ(digests: [u64; 16]) -> bool
-    ensures { λ r. ⌜ r ≡ everyTwo digestsApart digests ⌝ }
+// Whether no two of the first n are the same.
+fn all_differ(digests: [u64; 16], n: usize) -> bool
+    requires { ⌜ n ≤ 16 ⌝ }
+    ensures { λ r. ⌜ r ≡ everyTwo isOther (take n digests) ⌝ }
 {
     let mut i = 0;
-    while i < 16 {
+    while i < n {
         let d = digests[i];
         i += 1;
-        if d == 0 {
-            continue;
-        }
-        if !differs_from(digests, i, d) {
+        if !differs_from(digests, i, n, d) {
             return false;
         }
     }
@@ -214,9 +250,9 @@ pub fn is_sound(t: Table) -> bool
     let places = t.places;
     let listed = registry::is_sound(registry);
     let seen = look_over(places, registry, t.timer, t.clock);
-    let each = timed & listed & seen.sound;
+    let each = timed & listed & seen.sound & idle_sound(places);
     let digests = seen.digests;
-    if all_differ(digests) {
+    if all_differ(digests, seen.open) {
         return each;
     }
     each & keys_apart(places)

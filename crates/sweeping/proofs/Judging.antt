@@ -15,10 +15,10 @@ use Rattle.rules.specs.declared.Table.{Table}
 use Rattle.sweeping.specs.Sweeping.{sweptBy}
 use Rattle.sweeping.specs.declared.Test.the-variants.{Aged, Of}
 
-module _ (t : Table) (report : List ℕ) (n : ℕ) (e : n ≡ first (releaseChecks t report)) where
+module _ (t : Table) (report : List ℕ) (isSound : Bool) (g : isSound ≡ sound t) (n : ℕ) (e : n ≡ first (1 when not isSound ∷ 3 when ltb (length report) reportLeast ∷ [])) where
   judged-by : (s : Sweeping) → judged (releaseChecks t report) (unswept t report) s ≡ (if eqb n 0 then s else unswept t report n)
   unfolding releaseChecks
-  judged-by s = rw e (go (not (sound t)) (ltb (length report) reportLeast))
+  judged-by s = rw (e, g) (go (not (sound t)) (ltb (length report) reportLeast))
     where
       go : (b d : Bool) → judged (1 when b ∷ 3 when d ∷ []) (unswept t report) s
           ≡ (if eqb (first (1 when b ∷ 3 when d ∷ [])) 0 then s else unswept t report (first (1 when b ∷ 3 when d ∷ [])))

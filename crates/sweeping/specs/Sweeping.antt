@@ -2,13 +2,11 @@
 use Prim.Native.Nat.{ℕ}
 use mathlib.Core.Bool.{Bool}
 use mathlib.Core.List.{List, map}
-use lib.ListN.{length}
 use Rattle.rules.specs.General.{those}
-use Rattle.rules.specs.Sweep.{Sweeping, lossOf, freedBy, isDue, isOf, sweep}
+use Rattle.rules.specs.Sweep.{Sweeping, lossOf, isDue, isOf, sweep}
 use Rattle.rules.specs.declared.Place.{Place}
 use Rattle.rules.specs.declared.Record.{Record}
 use Rattle.rules.specs.declared.Table.{Table}
-use Rattle.sweeping.specs.declared.Cleared.{Cleared}
 use Rattle.sweeping.specs.declared.Test.{Test}
 use Rattle.sweeping.specs.declared.Test.the-variants.{Aged, Of}
 
@@ -23,9 +21,6 @@ causeOf (Of association) = 7
 -- the records that places give
 unfoldable pub losses : Test → List Place → List Record
 losses which ps = map (lossOf (causeOf which)) (those (testOf which) ps)
-
-abbrev pub clearedBy : Test → List Place → Cleared
-clearedBy which ps = record { places = map (freedBy (testOf which)) ps; records = length (losses which ps) }
 
 abbrev pub sweptBy : Test → ℕ → Table → List ℕ → Sweeping
 sweptBy which time t report = sweep (testOf which) (causeOf which) time t report

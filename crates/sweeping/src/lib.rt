@@ -5,25 +5,21 @@ use rules::Swept;
 use rules::Table;
 ghost use mathlib.Core.Path.{_≡_};
 ghost use mathlib.Core.List.{[], _∷_};
+ghost use mathlib.Core.Bool.{not};
 ghost use Prim.Native.Nat.{_+_, _*_, _≤_};
+ghost use lib.Dec.{ltb};
 ghost use lib.ListN.{length};
-ghost use Rattle.octets.specs.Splice.{splice, Wrote};
+ghost use Rattle.octets.specs.Splice.{Wrote};
 ghost use Rattle.rules.specs.Records.{recordLength, recordsOctets};
-ghost use Rattle.rules.specs.Refusals.{first};
-ghost use Rattle.rules.specs.Sweep.{lossOf, freedBy, unswept, releaseChecks};
+ghost use Rattle.rules.specs.Refusals.{_when_, first};
+ghost use Rattle.rules.specs.Sweep.{lossOf, unswept, reportLeast};
 ghost use Rattle.rules.specs.Promises.{OfClock, OfRelease};
-ghost use Rattle.sweeping.specs.Sweeping.{testOf, causeOf, losses, clearedBy, sweptBy};
+ghost use Rattle.sweeping.specs.Sweeping.{testOf, causeOf, sweptBy};
 
 // Which sequences a sweep loses: those too old at a time, or those of an association.
 pub enum Test {
     Aged { time: u32, timer: u32 },
     Of(u16),
-}
-
-// What a sweep leaves: the places, and how many records it wrote.
-pub struct Cleared {
-    pub places: [Place; 16],
-    pub records: u8,
 }
 
 // Whether a sweep loses what a place holds.
@@ -62,70 +58,38 @@ fn lost(p: Place, cause: u8) -> Record
     }
 }
 
-// A place after a sweep: free where its sequence is lost.
-fn freed(which: Test, p: Place) -> Place
-    ensures { λ r. ⌜ r ≡ freedBy (testOf which) p ⌝ }
-{
-    if is_due(which, p) {
-        return table::free_place();
-    }
-    p
-}
-
-// Writes a place's loss, if it is due, after the n records before it, and answers how many there are then.
-fn put_loss(report: &mut [u8], n: usize, which: Test, p: Place) -> usize
+// Writes a place's loss after the n records before it.
+fn put_loss(report: &mut [u8], n: usize, which: Test, p: Place)
     requires { ⌜ n ≤ 16 ⌝ }
-    ensures { λ r. ⌜ Wrote (now (report .entry)) (recordLength * n) (recordsOctets (losses which (p ∷ []))) (now (report .exit)) (recordLength * r) ⌝ }
-    ensures { λ r. ⌜ r ≡ n + length (losses which (p ∷ [])) ⌝ }
-    ensures { λ r. ⌜ r ≤ n + 1 ⌝ }
+    ensures { λ _. ⌜ Wrote (now (report .entry)) (recordLength * n) (recordsOctets (lossOf (causeOf which) p ∷ [])) (now (report .exit)) (recordLength * (n + 1)) ⌝ }
 {
-    if is_due(which, p) {
-        let r = lost(p, cause(which));
-        report::put_record(report, 32 * n, r);
-        return n + 1;
-    }
-    n
+    let r = lost(p, cause(which));
+    report::put_record(report, 32 * n, r);
 }
 
-// Loses what is due, in place order.
-fn sweep(places: [Place; 16], which: Test, report: &mut [u8]) -> Cleared
-    ensures { λ r. ⌜ r ≡ clearedBy which places ⌝ }
-    ensures { λ _. ⌜ now (report .exit) ≡ splice (now (report .entry)) 0 (recordsOctets (losses which places)) ⌝ }
-{
-    let mut after = places;
-    let mut n: usize = 0;
-    let mut i = 0;
-    while i < 16 {
-        let p = places[i];
-        let q = freed(which, p);
-        after[i] = q;
-        n = put_loss(report, n, which, p);
-        i += 1;
-    }
-    Cleared {
-        places: after,
-        records: n as u8,
-    }
-}
-
-// Loses what is due of a table, and sets its clock.
+// Loses what is due of a table, in place order, and sets its clock. What is not due is not touched.
 fn swept(t: Table, report: &mut [u8], time: u32, which: Test) -> Swept
     ensures { λ r. ⌜ r ≡ sweptBy which time t (now (report .entry)) .answer ⌝ }
     ensures { λ _. ⌜ now (report .exit) ≡ sweptBy which time t (now (report .entry)) .report ⌝ }
 {
-    let before = t.places;
-    let cleared = sweep(before, which, report);
-    let places = cleared.places;
-    let registry = t.registry;
+    let mut next = t;
+    let mut n: usize = 0;
+    let mut i = 0;
+    while i < 16 {
+        let p = next.places[i];
+        if is_due(which, p) {
+            put_loss(report, n, which, p);
+            let free = table::free_place();
+            next.places[i] = free;
+            n += 1;
+        }
+        i += 1;
+    }
+    next.clock = time;
     Swept {
-        table: Table {
-            places,
-            registry,
-            timer: t.timer,
-            clock: time,
-        },
+        table: next,
         refusal: 0,
-        records: cleared.records,
+        records: n as u8,
     }
 }
 
@@ -141,10 +105,10 @@ fn refused(t: Table, refusal: u8) -> Swept
 }
 
 // The first refusal, of the table or the report area, that a sweep's arguments give; 0 is none.
-fn judge(t: Table, report: &[u8]) -> u8
-    ensures { λ r. ⌜ r ≡ first (releaseChecks t (now (report .entry))) ⌝ }
+fn judge(sound: bool, report: &[u8]) -> u8
+    ensures { λ r. ⌜ r ≡ first (1 when not sound ∷ 3 when ltb (length (now (report .entry))) reportLeast ∷ []) ⌝ }
 {
-    if !soundness::is_sound(t) {
+    if !sound {
         return 1;
     }
     if report.len() < 512 {
@@ -157,7 +121,7 @@ fn judge(t: Table, report: &[u8]) -> u8
 pub fn clock(t: Table, report: &mut [u8], time: u32) -> Swept
     ensures { λ r. ⌜ OfClock t (now (report .entry)) time r (now (report .exit)) ⌝ }
 {
-    let refusal = judge(t, report);
+    let refusal = judge(soundness::is_sound(t), report);
     if refusal != 0 {
         return refused(t, refusal);
     }
@@ -172,7 +136,7 @@ pub fn clock(t: Table, report: &mut [u8], time: u32) -> Swept
 pub fn release(t: Table, report: &mut [u8], association: u16) -> Swept
     ensures { λ r. ⌜ OfRelease t (now (report .entry)) association r (now (report .exit)) ⌝ }
 {
-    let refusal = judge(t, report);
+    let refusal = judge(soundness::is_sound(t), report);
     if refusal != 0 {
         return refused(t, refusal);
     }

@@ -1,21 +1,20 @@
 -- What is left of the search gives the answer, unless a place was found before.
 use Prim.Native.Nat.{ℕ, _+_, _<_, _≤_}
 use mathlib.Core.Path.{_≡_, refl, sym, ap, _∙_}
-use mathlib.Core.Bool.{Bool, true, false, true≢false}
+use mathlib.Core.Bool.{Bool, true, false}
 use mathlib.Core.List.{List}
 use native.Mathlib.Omega.{arith}
-use borrow.Author.Tests.{eqb-false, ne-eqb}
+use borrow.Author.Tests.{ne-eqb}
 use lib.Dec.{eqb}
 use lib.ListN.{length, drop, getD, drop-of-length-le}
 use Rattle.rules.specs.General.{if_then_else_}
 use Rattle.rules.specs.Numbers.{placeCount}
-use Rattle.rules.specs.Places.{noPlace, firstFrom, isAt, numberOf}
+use Rattle.rules.specs.Places.{noPlace, firstFrom}
 use Rattle.rules.specs.declared.Place.{Place}
 use Rattle.rules.specs.declared.Found.{Found}
-use Rattle.rules.specs.declared.Found.the-variants.{At, Nothing}
+use Rattle.rules.specs.declared.Found.the-variants.{At}
 use Rattle.rules.proofs.Lists.{left}
 use Rattle.table.specs.Seeking.{soonerOf, foundAt}
-use Rattle.table.specs.Inside.{Inside}
 
 abbrev pub before-or : ℕ → Found → Found
 before-or found rest = if eqb found placeCount then rest else At found
@@ -32,11 +31,3 @@ module _ (f : Place → Bool) (l : List Place) (w : Found) (i found : ℕ) (so :
 
   pub sought-all : length l ≤ i → foundAt found ≡ w
   sought-all end = sym (so ∙ rw (drop-of-length-le l end))
-
--- a number that is not over 16 is of a place or none
-pub found-inside : (found : ℕ) → found ≤ placeCount → Inside (foundAt found)
-found-inside found most = go (eqb found placeCount) refl
-  where
-    go : (b : Bool) → eqb found placeCount ≡ b → isAt (if b then Nothing else At found) ≡ true → numberOf (if b then Nothing else At found) < placeCount
-    go true e at = absurd (true≢false (sym at))
-    go false e at = let n = eqb-false found placeCount e in omega (arith, n)

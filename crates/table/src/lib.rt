@@ -9,8 +9,7 @@ ghost use mathlib.Core.Path.{_≡_};
 ghost use Prim.Native.Nat.{_≤_};
 ghost use Rattle.rules.specs.Numbers.{age};
 ghost use Rattle.rules.specs.Places.{sameOctets, sameKey, holds, placeOf, lowestFree, freePlace};
-ghost use Rattle.table.specs.Inside.{Inside};
-ghost use Rattle.table.specs.Seeking.{soonerOf, foundAt};
+ghost use Rattle.table.specs.Seeking.{soonerOf, foundAt, Points};
 
 // The new time less the old, modulo 2^32: an age, and a step of the clock.
 pub fn age_of(new: u32, old: u32) -> u32
@@ -49,10 +48,11 @@ pub fn same_key(a: Key, b: Key) -> bool
     false
 }
 
-// Which place has a key, and which is free.
+// The place that a key's segment is about: the key's own where it is found, or else the lowest free one where there is room, or else 0.
 pub struct Search {
-    pub place: Found,
-    pub room: Found,
+    pub at: usize,
+    pub found: bool,
+    pub room: bool,
 }
 
 // Whether a place is open with a key.
@@ -81,20 +81,35 @@ fn sooner(found: usize, passes: bool, i: usize) -> usize
     16
 }
 
-// A place by its number; 16 is none.
-fn numbered(i: usize) -> Found
-    ensures { λ r. ⌜ r ≡ foundAt i ⌝ }
+// What a search gives, by the numbers of the key's place and of the lowest free one; 16 is none.
+fn chosen(place: usize, room: usize) -> Search
+    requires { ⌜ (place ≤ 16) × (room ≤ 16) ⌝ }
+    ensures { λ r. ⌜ Points (foundAt place) (foundAt room) r ⌝ }
 {
-    if i == 16 {
-        return Found::Nothing;
+    if place != 16 {
+        return Search {
+            at: place,
+            found: true,
+            room: room != 16,
+        };
     }
-    Found::At(i)
+    if room != 16 {
+        return Search {
+            at: room,
+            found: false,
+            room: true,
+        };
+    }
+    Search {
+        at: 0,
+        found: false,
+        room: false,
+    }
 }
 
 // The place that is open with a key, and the lowest free one: both in one go over the places.
 pub fn search_for(places: [Place; 16], k: Key) -> Search
-    ensures { λ r. ⌜ (r .place ≡ placeOf k places) × (r .room ≡ lowestFree places) ⌝ }
-    ensures { λ r. ⌜ Inside (r .place) × Inside (r .room) ⌝ }
+    ensures { λ r. ⌜ Points (placeOf k places) (lowestFree places) r ⌝ }
 {
     let mut place = 16;
     let mut room = 16;
@@ -105,16 +120,12 @@ pub fn search_for(places: [Place; 16], k: Key) -> Search
         room = sooner(room, p.mark == 0, i);
         i += 1;
     }
-    Search {
-        place: numbered(place),
-        room: numbered(room),
-    }
+    chosen(place, room)
 }
 
 // The lowest free place.
 pub fn lowest_free(places: [Place; 16]) -> Found
     ensures { λ r. ⌜ r ≡ lowestFree places ⌝ }
-    ensures { λ r. ⌜ Inside r ⌝ }
 {
     let mut k = 0;
     while k < 16 {

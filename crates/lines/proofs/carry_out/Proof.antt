@@ -1,4 +1,3 @@
-use mathlib.Core.Path.{refl}
 use borrow.Author.Needs.{needs}
 use Rattle.lines.proofs.carry_out.Statement.{statement}
 use Rattle.lines.proofs.carry_out.Tie as tie
@@ -19,25 +18,25 @@ enum-told-2 : tie.Need-enum-told-2
 enum-told-2 c = search needs
 
 restart-requires : tie.Need-restart-requires
-restart-requires c κs = let s = c .before .before .before .before .before .before .before in (s .pre .0, rw (c .before .before .enum-told2 .given .1) at (s .pre .1 .0))
+restart-requires c κs = let s = c .before .before .before .before .before .before .before in (s .pre .0, rw (c .before .before .enum-told2 .given .1) at (s .pre .1))
 
 enum-told-3 : tie.Need-enum-told-3
 enum-told-3 c = search needs
 
 start-requires : tie.Need-start-requires
-start-requires c κs = let s = c .before .before .before .before .before .before .before in (s .pre .0, (rw (c .before .before .enum-told3 .given .1) at (s .pre .1 .1)) refl)
+start-requires c κs = search needs
 
 enum-told-4 : tie.Need-enum-told-4
 enum-told-4 c = search needs
 
 finish-requires : tie.Need-finish-requires
-finish-requires c κs = let s = c .before .before .before .before .before .before .before in (s .pre .0, rw (c .before .before .enum-told4 .given .1) at (s .pre .1 .0))
+finish-requires c κs = let s = c .before .before .before .before .before .before .before in (s .pre .0, rw (c .before .before .enum-told4 .given .1) at (s .pre .1))
 
 enum-told-5 : tie.Need-enum-told-5
 enum-told-5 c = search needs
 
 go-on-requires : tie.Need-go-on-requires
-go-on-requires c κs = let s = c .before .before .before .before .before .before .before in (s .pre .0, rw (c .before .before .enum-told5 .given .1) at (s .pre .1 .0))
+go-on-requires c κs = let s = c .before .before .before .before .before .before .before in (s .pre .0, rw (c .before .before .enum-told5 .given .1) at (s .pre .1))
 
 same-length : tie.Need-same-length
 same-length c = search needs

@@ -18,7 +18,7 @@ returns-3 c = (simp (simp (c .before .if3 .taken) at (c .before .before .before 
 
 returns-4 : tie.Need-returns-4
 unfolding lineOf
-returns-4 c = (simp (simp (c .before .if3 .taken) at (c .before .before .before .if1 .left), le-ltb _ _ (c .before .before .if2 .left), c .before .if3 .taken, c .if4 .left), tt)
+returns-4 c = (simp (simp (c .before .if3 .taken) at (c .before .before .before .if1 .left), le-ltb _ _ (c .before .before .if2 .left), c .before .if3 .taken, c .if4 .left), c .if4 .left)
 
 returns-5 : tie.Need-returns-5
 unfolding lineOf

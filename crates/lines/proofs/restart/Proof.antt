@@ -1,7 +1,7 @@
-use native.Mathlib.Omega.{arith}
-use mathlib.Core.Path.{_∙_}
+use mathlib.Core.Path.{refl, _∙_}
 use Rattle.lines.proofs.Reported.{one-record}
-use Rattle.lines.specs.Carried.{carriedOut}
+use Rattle.lines.proofs.Stepping.{step-answer}
+use Rattle.lines.specs.Carried.{carriedAt}
 use Rattle.rules.specs.Receiving.{effectOf}
 use borrow.Author.Needs.{needs}
 use Rattle.lines.proofs.restart.Statement.{statement}
@@ -13,20 +13,14 @@ record-with-requires c κs = search needs
 put-record-requires : tie.Need-put-record-requires
 put-record-requires c κs = search needs
 
-number-of-requires : tie.Need-number-of-requires
-number-of-requires c κs = search needs
-
 save-at-requires : tie.Need-save-at-requires
-save-at-requires c κs = let s = c .before .before .before .before .before .before .before .before .before .before in omega (arith, s .pre .0, s .pre .0 .inPlace (s .pre .1), c .number-of .ensures)
+save-at-requires c κs = search needs
 
 begun-place-requires : tie.Need-begun-place-requires
 begun-place-requires c κs = search needs
 
-with-place-requires : tie.Need-with-place-requires
-with-place-requires c κs = c .before .before .before .before .before .before .before .before .before .before .before .before .before .before .pre .0 .inPlace
-
-received-requires : tie.Need-received-requires
-received-requires c κs = search needs
+taken-requires : tie.Need-taken-requires
+taken-requires c κs = search needs
 
 same-length : tie.Need-same-length
 same-length c = search needs
@@ -35,16 +29,16 @@ same-length-2 : tie.Need-same-length-2
 same-length-2 c = search needs
 
 returns : tie.Need-returns
-unfolding carriedOut effectOf
+unfolding carriedAt effectOf
 returns c =
-    let w = c .before in
-    let s = c .before .before .before .before .before in
-    let r = c .before .before .before .before .before .before .before .before .before .before .before .before in
+    let s = c .before .before .before .before .before .before .before .before .before .before .before .before .before .before in
+    rw (s .pre .1) (
     record {
-      answered = c .received .ensures ∙ rw (w .with-place .ensures, w .before .begun-place .ensures);
-      stored = s .save-at .ensures ∙ rw (s .before .number-of .ensures);
-      reported = one-record _ _ _ _ (c .before .before .before .before .before .before .before .before .before .before .put-record .ensures .0) (r .record-with .ensures);
+      answered = step-answer (s .args .t) (s .args .at) _ _ _ _ _ (c .taken .ensures ∙ rw (c .before .begun-place .ensures)) refl;
+      stored = c .before .before .before .before .save-at .ensures;
+      reported = one-record _ _ _ _ (c .before .before .before .before .before .before .before .before .put-record .ensures .0) (c .before .before .before .before .before .before .before .before .before .before .record-with .ensures);
     }
+    )
 
 pub restart-spec : {M : Type 1} → statement M
 restart-spec =
@@ -52,11 +46,9 @@ restart-spec =
     (tie.spec
     record-with-requires
     put-record-requires
-    number-of-requires
     save-at-requires
     begun-place-requires
-    with-place-requires
-    received-requires
+    taken-requires
     same-length
     same-length-2
     returns)

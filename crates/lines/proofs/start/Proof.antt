@@ -1,49 +1,34 @@
-use native.Mathlib.Omega.{arith}
-use mathlib.Core.Path.{_∙_}
+use mathlib.Core.Path.{refl, _∙_}
 use Rattle.lines.proofs.Reported.{no-record}
-use Rattle.lines.specs.Carried.{carriedOut}
+use Rattle.lines.proofs.Stepping.{step-answer}
+use Rattle.lines.specs.Carried.{carriedAt}
 use Rattle.rules.specs.Receiving.{effectOf}
 use borrow.Author.Needs.{needs}
 use Rattle.lines.proofs.start.Statement.{statement}
 use Rattle.lines.proofs.start.Tie as tie
 
-number-of-requires : tie.Need-number-of-requires
-number-of-requires c κs = search needs
-
 save-at-requires : tie.Need-save-at-requires
-save-at-requires c κs = let s = c .before .before .before .before .before in omega (arith, s .pre .0, s .pre .0 .inRoom (s .pre .1), c .before .number-of .ensures)
+save-at-requires c κs = search needs
 
 begun-place-requires : tie.Need-begun-place-requires
 begun-place-requires c κs = search needs
 
-with-place-requires : tie.Need-with-place-requires
-with-place-requires c κs = search needs
-
-received-requires : tie.Need-received-requires
-received-requires c κs = search needs
+taken-requires : tie.Need-taken-requires
+taken-requires c κs = search needs
 
 same-length : tie.Need-same-length
 same-length c = search needs
 
 returns : tie.Need-returns
-unfolding carriedOut effectOf
+unfolding carriedAt effectOf
 returns c =
-    let w = c .before in
-    let s = c .before .before .before .before .before in
+    let s = c .before .before .before .before .before .before .before .before .before in
     record {
-      answered = c .received .ensures ∙ rw (w .with-place .ensures, w .before .begun-place .ensures, s .before .before .number-of .ensures);
-      stored = s .save-at .ensures ∙ rw (s .before .before .number-of .ensures);
+      answered = step-answer (s .args .t) (s .args .at) _ _ _ _ _ (c .taken .ensures ∙ rw (c .before .begun-place .ensures)) refl;
+      stored = c .before .before .before .before .save-at .ensures;
       reported = no-record _;
     }
 
 pub start-spec : {M : Type 1} → statement M
 start-spec =
-    tie.close
-    (tie.spec
-    number-of-requires
-    save-at-requires
-    begun-place-requires
-    with-place-requires
-    received-requires
-    same-length
-    returns)
+    tie.close (tie.spec save-at-requires begun-place-requires taken-requires same-length returns)

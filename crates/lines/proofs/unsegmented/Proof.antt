@@ -1,6 +1,7 @@
 use mathlib.Core.Path.{refl}
 use Rattle.lines.proofs.Reported.{one-record}
-use Rattle.lines.specs.Carried.{carriedOut}
+use Rattle.lines.proofs.Stepping.{step-answer, kept}
+use Rattle.lines.specs.Carried.{carriedAt}
 use Rattle.rules.specs.Receiving.{effectOf}
 use borrow.Author.Needs.{needs}
 use Rattle.lines.proofs.unsegmented.Statement.{statement}
@@ -15,17 +16,21 @@ record-with-requires c κs = search needs
 put-record-requires : tie.Need-put-record-requires
 put-record-requires c κs = search needs
 
-received-requires : tie.Need-received-requires
-received-requires c κs = search needs
+taken-requires : tie.Need-taken-requires
+taken-requires c κs = search needs
 
 same-length : tie.Need-same-length
 same-length c = search needs
 
 returns : tie.Need-returns
-unfolding carriedOut effectOf
+unfolding carriedAt effectOf
 returns c =
-    let r = c .before .before .before .before .before in
-    record { answered = c .received .ensures; stored = refl; reported = one-record _ _ _ _ (c .before .before .before .put-record .ensures .0) (r .record-with .ensures) }
+    let s = c .before .before .before .before .before .before .before .before .before .before in
+    record {
+      answered = step-answer (s .args .t) (s .args .at) _ _ _ _ _ (c .taken .ensures) (kept _ _ _ (s .pre .there));
+      stored = refl;
+      reported = one-record _ _ _ _ (c .before .before .before .put-record .ensures .0) (c .before .before .before .before .before .record-with .ensures);
+    }
 
 pub unsegmented-spec : {M : Type 1} → statement M
 unsegmented-spec =
@@ -34,6 +39,6 @@ unsegmented-spec =
     cast-record-with
     record-with-requires
     put-record-requires
-    received-requires
+    taken-requires
     same-length
     returns)

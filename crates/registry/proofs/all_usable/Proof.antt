@@ -1,21 +1,21 @@
 use Prim.Native.Nat.{_-_}
 use mathlib.Core.Path.{_≡_, refl}
-use borrow.Author.Tests.{not-true, not-false}
+use mathlib.Core.Bool.{_&&_}
 use lib.ListN.{drop}
 use Rattle.rules.specs.General.{every}
 use Rattle.rules.specs.Registry.{isUsable}
 use Rattle.rules.specs.Opening.{noEntry}
-use Rattle.rules.proofs.Lists.{every-fails, every-goes, every-ends}
 use native.Mathlib.Omega.{arith}
 use borrow.Author.Needs.{needs}
+use Rattle.registry.proofs.Along.{every-so-far, every-over}
 use Rattle.registry.proofs.all_usable.Statement.{statement}
 use Rattle.registry.proofs.all_usable.Tie as tie
 
 abbrev Inv-loop : tie.InvT-loop
-Inv-loop registry i₀ i = every isUsable registry ≡ every isUsable (drop i registry)
+Inv-loop registry usable₀ i₀ usable i = every isUsable registry ≡ (usable && every isUsable (drop i registry))
 
 abbrev μ-loop : tie.MeasureT-loop
-μ-loop registry i₀ i = 8 - i
+μ-loop registry usable₀ i₀ usable i = 8 - i
 
 loop-holds : tie.Need-loop-holds Inv-loop μ-loop
 loop-holds c = refl
@@ -32,12 +32,6 @@ is-unused-requires c κs = search needs
 is-entry-requires : tie.Need-is-entry-requires Inv-loop μ-loop
 is-entry-requires c κs = search needs
 
-returns : tie.Need-returns Inv-loop μ-loop
-returns c =
-    let l = c .before .before .before .before .before in
-    every-fails isUsable (l .before .args .t1) noEntry (l .loop .i) _ (l .loop .inv) (omega arith)
-    (rw (← c .before .is-entry .ensures, ← c .before .before .is-unused .ensures) (not-true _ (c .if1 .taken)))
-
 add-i : tie.Need-add-i Inv-loop μ-loop
 add-i c = omega arith
 
@@ -46,14 +40,14 @@ loop-less c = omega arith
 
 loop-again : tie.Need-loop-again Inv-loop μ-loop
 loop-again c =
-    let l = c .before .before .before .before .before in
-    every-goes isUsable (l .before .args .t1) noEntry (l .loop .i) _ (l .loop .inv) (omega arith)
-    (rw (← c .before .is-entry .ensures, ← c .before .before .is-unused .ensures) (not-false _ (c .if1 .left)))
+    let l = c .before .before .before .before in
+    every-so-far isUsable (l .before .args .t1) noEntry (l .loop .i) _ (l .loop .usable) (l .loop .inv) _ (omega arith)
+    (rw (c .is-entry .ensures, c .before .is-unused .ensures))
 
-returns-2 : tie.Need-returns-2 Inv-loop μ-loop
-returns-2 c =
+returns : tie.Need-returns Inv-loop μ-loop
+returns c =
     let l = c .before in
-    every-ends isUsable (l .before .args .t1) noEntry (l .loop .i) _ (l .loop .inv) (omega arith)
+    every-over isUsable (l .before .args .t1) noEntry (l .loop .i) _ (l .loop .usable) (l .loop .inv) (omega arith)
 
 pub all-usable-spec : {M : Type 1} → statement M
 all-usable-spec =
@@ -66,8 +60,7 @@ all-usable-spec =
     array-copy-out-e
     is-unused-requires
     is-entry-requires
-    returns
     add-i
     loop-less
     loop-again
-    returns-2)
+    returns)

@@ -1,19 +1,21 @@
 use Prim.Native.Nat.{_-_}
-use mathlib.Core.Path.{_≡_, refl}
-use lib.ListN.{drop}
-use native.Mathlib.Omega.{arith}
+use mathlib.Core.Path.{_≡_, refl, ap}
+use mathlib.Core.Bool.{not}
 use borrow.Author.Tests.{eq-eqb, ne-eqb}
+use lib.ListN.{take, drop}
+use lib.Seq.{getD-take, length-take-le}
+use native.Mathlib.Omega.{arith}
 use Rattle.rules.specs.General.{every}
 use Rattle.rules.proofs.Lists.{every-fails, every-goes, every-ends}
-use Rattle.soundness.specs.Digest.{digestsApart}
+use Rattle.soundness.specs.Digest.{isOther}
 use Rattle.soundness.proofs.differs_from.Statement.{statement}
 use Rattle.soundness.proofs.differs_from.Tie as tie
 
 abbrev Inv-loop : tie.InvT-loop
-Inv-loop at d digests i₀ i = every (digestsApart d) (drop at digests) ≡ every (digestsApart d) (drop i digests)
+Inv-loop at n d digests i₀ i = every (isOther d) (drop at (take n digests)) ≡ every (isOther d) (drop i (take n digests))
 
 abbrev μ-loop : tie.MeasureT-loop
-μ-loop at d digests i₀ i = 16 - i
+μ-loop at n d digests i₀ i = n - i
 
 loop-holds : tie.Need-loop-holds Inv-loop μ-loop
 loop-holds c = refl
@@ -28,7 +30,8 @@ returns : tie.Need-returns Inv-loop μ-loop
 returns c =
     let l = c .before .before in
     let a = l .before .args in
-    every-fails (digestsApart (a .d)) (a .t1) 0 (l .loop .i) _ (l .loop .inv) (omega arith) (simp (ne-eqb (a .d) 0 (omega arith), eq-eqb _ _ (c .if1 .taken)))
+    every-fails (isOther (a .d)) (take (a .n) (a .t1)) 0 (l .loop .i) _ (l .loop .inv) (omega (arith, length-take-le (a .n) (a .t1) (omega arith)))
+    (rw (getD-take (a .n) (a .t1) (l .loop .i) 0 (omega arith)) (ap not (eq-eqb _ _ (c .if1 .taken))))
 
 add-i : tie.Need-add-i Inv-loop μ-loop
 add-i c = omega arith
@@ -40,13 +43,14 @@ loop-again : tie.Need-loop-again Inv-loop μ-loop
 loop-again c =
     let l = c .before .before in
     let a = l .before .args in
-    every-goes (digestsApart (a .d)) (a .t1) 0 (l .loop .i) _ (l .loop .inv) (omega arith) (simp (ne-eqb (a .d) 0 (omega arith), ne-eqb _ _ (c .if1 .left)))
+    every-goes (isOther (a .d)) (take (a .n) (a .t1)) 0 (l .loop .i) _ (l .loop .inv) (omega (arith, length-take-le (a .n) (a .t1) (omega arith)))
+    (rw (getD-take (a .n) (a .t1) (l .loop .i) 0 (omega arith)) (ap not (ne-eqb _ _ (c .if1 .left))))
 
 returns-2 : tie.Need-returns-2 Inv-loop μ-loop
 returns-2 c =
     let l = c .before in
     let a = l .before .args in
-    every-ends (digestsApart (a .d)) (a .t1) 0 (l .loop .i) _ (l .loop .inv) (omega arith)
+    every-ends (isOther (a .d)) (take (a .n) (a .t1)) 0 (l .loop .i) _ (l .loop .inv) (omega (arith, length-take-le (a .n) (a .t1) (omega arith)))
 
 pub differs-from-spec : {M : Type 1} → statement M
 differs-from-spec =

@@ -1,28 +1,28 @@
-use Prim.Native.Nat.{_-_}
-use mathlib.Core.Path.{_≡_, refl}
-use mathlib.Core.Bool.{_&&_}
-use mathlib.Core.List.{_++_, map}
-use lib.ListN.{length, take, drop, length-set}
+use Prim.Native.Nat.{_-_, _≤_}
+use mathlib.Core.Path.{refl}
+use mathlib.Core.Logic.{⊎-elim}
+use borrow.Author.Tests.{eq-eqb, ne-eqb}
+use lib.ListN.{length}
 use native.Mathlib.Omega.{arith}
 use borrow.Author.Needs.{needs}
-use Rattle.rules.specs.General.{every}
-use Rattle.rules.specs.Places.{noPlace}
-use Rattle.rules.specs.Soundness.{placeSound}
-use Rattle.soundness.specs.Digest.{digest}
-use Rattle.soundness.proofs.Digest.{made-more, made-all, every-so-far, every-over}
+use Rattle.soundness.proofs.Digest.{SoFar, seen-open, seen-other, seen-sound, seen-all}
 use Rattle.soundness.proofs.look_over.Statement.{statement}
 use Rattle.soundness.proofs.look_over.Tie as tie
 
 abbrev Inv-loop : tie.InvT-loop
-Inv-loop registry timer clock places digests₀ sound₀ i₀ digests sound i =
-    (every (placeSound registry timer clock) places ≡ (sound && every (placeSound registry timer clock) (drop i places)))
-    × ((map digest places ≡ take i digests ++ map digest (drop i places)) × (length digests ≡ 16))
+Inv-loop registry timer clock places digests₀ sound₀ open₀ i₀ digests sound «open» i = SoFar registry timer clock places digests sound «open» i
 
 abbrev μ-loop : tie.MeasureT-loop
-μ-loop registry timer clock places digests₀ sound₀ i₀ digests sound i = 16 - i
+μ-loop registry timer clock places digests₀ sound₀ open₀ i₀ digests sound «open» i = 16 - i
 
 loop-holds : tie.Need-loop-holds Inv-loop μ-loop
-loop-holds c = (refl, (refl, refl))
+loop-holds c = record { each = refl; told = refl; room = refl; few = omega arith; within = omega arith }
+
+mul-if1 : tie.Need-mul-if1 Inv-loop μ-loop
+mul-if1 c = omega arith
+
+element-copy-out-if1 : tie.Need-element-copy-out-if1 Inv-loop μ-loop
+element-copy-out-if1 c = omega arith
 
 mul-p : tie.Need-mul-p Inv-loop μ-loop
 mul-p c = omega arith
@@ -39,8 +39,11 @@ mul-digests c = omega arith
 array-write-digests : tie.Need-array-write-digests Inv-loop μ-loop
 array-write-digests c = omega arith
 
-place-sound-requires : tie.Need-place-sound-requires Inv-loop μ-loop
-place-sound-requires c κs = search needs
+open-sound-requires : tie.Need-open-sound-requires Inv-loop μ-loop
+open-sound-requires c κs = search needs
+
+add-open : tie.Need-add-open Inv-loop μ-loop
+add-open c = omega arith
 
 add-i : tie.Need-add-i Inv-loop μ-loop
 add-i c = omega arith
@@ -48,20 +51,29 @@ add-i c = omega arith
 loop-less : tie.Need-loop-less Inv-loop μ-loop
 loop-less c = omega arith
 
+-- a turn, by whether the place is open
 loop-again : tie.Need-loop-again Inv-loop μ-loop
 loop-again c =
-    let d = c .before in
-    let l = d .before .before .before in
-    let a = l .before .args in (
-      every-so-far (placeSound (a .registry) (a .timer) (a .clock)) (a .t1) noPlace (l .loop .i) _ (l .loop .sound) _ (l .loop .inv .0) (omega arith) (c .place-sound .ensures),
-      (made-more digest (a .t1) noPlace _ (l .loop .i) _ _ (l .loop .inv .1 .0) (omega arith) (omega arith) (d .digest-of .ensures), simp length-set (l .loop .inv .1 .1)),
-    )
+    let l = c .before .before in
+    let a = l .before .args in
+    let i = l .loop .i in
+    let d = l .loop .digests in
+    let n = l .loop .«open» in
+    ⊎-elim
+    (λ w. rw (w .4, w .5, w .6)
+    (seen-open (a .registry) (a .timer) (a .clock) (a .t1) d (l .loop .sound) n i (l .loop .inv) (omega arith) (omega arith) (eq-eqb _ _ (w .0 .taken)) _ (w .2 .ensures) _ (w .3 .ensures)))
+    (λ w. rw (w .1, w .2, w .3)
+    (seen-other (a .registry) (a .timer) (a .clock) (a .t1) d (l .loop .sound) n i (l .loop .inv) (omega arith) (omega arith) (ne-eqb _ _ (w .0 .left))))
+    (c .if1 .came)
 
 returns : tie.Need-returns Inv-loop μ-loop
 returns c =
     let l = c .before in
     let a = l .before .args in
-    (every-over (placeSound (a .registry) (a .timer) (a .clock)) (a .t1) noPlace (l .loop .i) _ (l .loop .sound) (l .loop .inv .0) (omega arith), made-all digest (a .t1) noPlace _ (l .loop .i) _ (l .loop .inv .1 .0) (omega arith) (omega arith))
+    let end : length (a .t1) ≤ l .loop .i = omega arith in (
+      seen-sound (a .registry) (a .timer) (a .clock) (a .t1) _ _ _ (l .loop .i) (l .loop .inv) end,
+      (omega (arith, l .loop .inv .few, l .loop .inv .within), seen-all (a .registry) (a .timer) (a .clock) (a .t1) _ _ _ (l .loop .i) (l .loop .inv) end),
+    )
 
 pub look-over-spec : {M : Type 1} → statement M
 look-over-spec =
@@ -70,12 +82,15 @@ look-over-spec =
     Inv-loop
     μ-loop
     loop-holds
+    mul-if1
+    element-copy-out-if1
     mul-p
     array-copy-out-p
     digest-of-requires
     mul-digests
     array-write-digests
-    place-sound-requires
+    open-sound-requires
+    add-open
     add-i
     loop-less
     loop-again

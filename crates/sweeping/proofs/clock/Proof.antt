@@ -7,6 +7,9 @@ use borrow.Author.Needs.{needs}
 use Rattle.sweeping.proofs.clock.Statement.{statement}
 use Rattle.sweeping.proofs.clock.Tie as tie
 
+is-sound-requires : tie.Need-is-sound-requires
+is-sound-requires c κs = search needs
+
 judge-requires : tie.Need-judge-requires
 judge-requires c κs = search needs
 
@@ -19,8 +22,9 @@ same-length c = search needs
 returns : tie.Need-returns
 returns c =
     let j = c .before .before in
-    let a = j .before .before .before .args in
-    let is = clock-is (a .t) (a .report .now) (j .judge .result) (j .judge .ensures) (a .time) in
+    let o = j .before .before in
+    let a = o .before .before .args in
+    let is = clock-is (a .t) (a .report .now) (o .is-sound .result) (o .is-sound .ensures) (j .judge .result) (j .judge .ensures) (a .time) in
     let e = ne-eqb _ _ (c .before .if1 .taken) in
     record { answered = rw is (simp e (c .refused .ensures)); reported = rw is (simp e) }
 
@@ -37,8 +41,9 @@ returns-2 : tie.Need-returns-2
 returns-2 c =
     let k = c .before .before in
     let j = k .before .before in
-    let a = j .before .before .before .args in
-    let is = clock-is (a .t) (a .report .now) (j .judge .result) (j .judge .ensures) (a .time) in
+    let o = j .before .before in
+    let a = o .before .before .args in
+    let is = clock-is (a .t) (a .report .now) (o .is-sound .result) (o .is-sound .ensures) (j .judge .result) (j .judge .ensures) (a .time) in
     let e = eq-eqb _ _ (k .before .if1 .left) in
     let f = le-leb (2 ^ 31) (age (a .time) (a .t .clock)) (omega (arith, k .age-of .ensures)) in
     record { answered = rw is (simp (e, f) (c .refused2 .ensures)); reported = rw is (simp (e, f)) }
@@ -54,8 +59,9 @@ returns-3 c =
     let s = c .before .before in
     let k = s .before .before .before in
     let j = k .before .before in
-    let a = j .before .before .before .args in
-    let is = clock-is (a .t) (a .report .now) (j .judge .result) (j .judge .ensures) (a .time) in
+    let o = j .before .before in
+    let a = o .before .before .args in
+    let is = clock-is (a .t) (a .report .now) (o .is-sound .result) (o .is-sound .ensures) (j .judge .result) (j .judge .ensures) (a .time) in
     let e = eq-eqb _ _ (k .before .if1 .left) in
     let f = lt-leb (2 ^ 31) (age (a .time) (a .t .clock)) (omega (arith, k .age-of .ensures)) in
     record { answered = rw is (simp (e, f) (s .swept .ensures .0)); reported = rw is (simp (e, f) (s .swept .ensures .1)) }
@@ -64,6 +70,7 @@ pub clock-spec : {M : Type 1} → statement M
 clock-spec =
     tie.close
     (tie.spec
+    is-sound-requires
     judge-requires
     refused-requires
     same-length

@@ -1,6 +1,5 @@
-use mathlib.Core.Bool.{true≢false}
 use Prim.Native.Nat.{_-_}
-use mathlib.Core.Path.{_≡_, refl, sym}
+use mathlib.Core.Path.{_≡_, refl}
 use borrow.Author.Tests.{eq-eqb, ne-eqb}
 use lib.ListN.{drop}
 use Rattle.rules.specs.Places.{firstFrom, isFree}
@@ -27,7 +26,7 @@ element-copy-out-if1 c = omega arith
 returns : tie.Need-returns Inv-loop μ-loop
 returns c =
     let l = c .before .before in
-    (first-found isFree (l .before .args .t1) (l .loop .k) _ (l .loop .inv) (omega arith) (eq-eqb _ _ (c .if1 .taken)), λ e. omega arith)
+    first-found isFree (l .before .args .t1) (l .loop .k) _ (l .loop .inv) (omega arith) (eq-eqb _ _ (c .if1 .taken))
 
 add-k : tie.Need-add-k Inv-loop μ-loop
 add-k c = omega arith
@@ -43,7 +42,7 @@ loop-again c =
 returns-2 : tie.Need-returns-2 Inv-loop μ-loop
 returns-2 c =
     let l = c .before in
-    (first-ends isFree (l .before .args .t1) (l .loop .k) _ (l .loop .inv) (omega arith), λ e. absurd (true≢false (sym e)))
+    first-ends isFree (l .before .args .t1) (l .loop .k) _ (l .loop .inv) (omega arith)
 
 pub lowest-free-spec : {M : Type 1} → statement M
 lowest-free-spec =

@@ -1,10 +1,10 @@
 use Prim.Native.Nat.{_-_, _≤_}
-use mathlib.Core.Path.{_≡_, refl, _∙_}
+use mathlib.Core.Path.{_≡_, refl}
 use lib.ListN.{drop}
 use native.Mathlib.Omega.{arith}
 use borrow.Author.Needs.{needs}
 use Rattle.rules.specs.Places.{firstFrom, holds, isFree, placeOf, lowestFree}
-use Rattle.table.proofs.Seeking.{before-or, sought-more, sought-all, found-inside}
+use Rattle.table.proofs.Seeking.{before-or, sought-more, sought-all}
 use Rattle.table.proofs.search_for.Statement.{statement}
 use Rattle.table.proofs.search_for.Tie as tie
 
@@ -53,23 +53,14 @@ loop-again c =
       ),
     )
 
-numbered-requires : tie.Need-numbered-requires Inv-loop μ-loop
-numbered-requires c κs = search needs
-
-numbered-requires-2 : tie.Need-numbered-requires-2 Inv-loop μ-loop
-numbered-requires-2 c κs = search needs
+chosen-requires : tie.Need-chosen-requires Inv-loop μ-loop
+chosen-requires c κs = c .before .loop .inv .1 .1
 
 returns : tie.Need-returns Inv-loop μ-loop
 returns c =
-    let n = c .before in
-    let l = n .before .before in
-    let a = l .before .args in (
-      (
-        n .numbered .ensures ∙ sought-all (holds (a .k)) (a .t1) _ (l .loop .i) (l .loop .place) (l .loop .inv .0) (omega arith),
-        c .numbered2 .ensures ∙ sought-all isFree (a .t1) _ (l .loop .i) (l .loop .room) (l .loop .inv .1 .0) (omega arith),
-      ),
-      (rw (n .numbered .ensures) (found-inside (l .loop .place) (l .loop .inv .1 .1 .0)), rw (c .numbered2 .ensures) (found-inside (l .loop .room) (l .loop .inv .1 .1 .1))),
-    )
+    let l = c .before .before in
+    let a = l .before .args in
+    rw (← sought-all (holds (a .k)) (a .t1) _ (l .loop .i) (l .loop .place) (l .loop .inv .0) (omega arith), ← sought-all isFree (a .t1) _ (l .loop .i) (l .loop .room) (l .loop .inv .1 .0) (omega arith)) (c .chosen .ensures)
 
 pub search-for-spec : {M : Type 1} → statement M
 search-for-spec =
@@ -86,6 +77,5 @@ search-for-spec =
     add-i
     loop-less
     loop-again
-    numbered-requires
-    numbered-requires-2
+    chosen-requires
     returns)
