@@ -97,17 +97,28 @@ module _ (t : Table) (store report : List ℕ) (f : Fields) (octets : List ℕ) 
   alone-line : isAlone (f .heading .new) (f .heading .remaining .0) ≡ true → line ≡ Unsegmented
   alone-line a = el ∙ line-alone (q .found) (held .remaining .0) (held .octets) (f .heading) (length octets) a
 
-  free-at : isAlone (f .heading .new) (f .heading .remaining .0) ≡ false → (isStart line && not (q .room)) ≡ false → isStart line ≡ true → lowestFree (t .places) ≡ At (q .at)
-  free-at a e start = seeks .points a .free-at (closed line tells start) (roomy (q .room) (simp start at e))
+  -- a line that needs room is that of a key that is not open
+  start-closed : isStart line ≡ true → q .found ≡ false
+  start-closed start = go line tells start
     where
-      closed : (l : Line) → Tells (q .found) (held .octets) (length octets) l → isStart l ≡ true → q .found ≡ false
-      closed Unsegmented z h = absurd (true≢false (sym h))
-      closed (Broken cause) z h = absurd (true≢false (sym h))
-      closed Restart z h = absurd (true≢false (sym h))
-      closed Start z h = z
-      closed Final z h = absurd (true≢false (sym h))
-      closed Next z h = absurd (true≢false (sym h))
+      go : (l : Line) → Tells (q .found) (held .octets) (length octets) l → isStart l ≡ true → q .found ≡ false
+      go Unsegmented z h = absurd (true≢false (sym h))
+      go (Broken cause) z h = absurd (true≢false (sym h))
+      go Restart z h = absurd (true≢false (sym h))
+      go Start z h = z
+      go Final z h = absurd (true≢false (sym h))
+      go Next z h = absurd (true≢false (sym h))
 
+  same-room : isAlone (f .heading .new) (f .heading .remaining .0) ≡ false → (isStart line && not (q .room)) ≡ (isStart line && not (isAt (lowestFree (t .places))))
+  same-room a = go (isStart line) refl
+    where
+      go : (b : Bool) → isStart line ≡ b → (b && not (q .room)) ≡ (b && not (isAt (lowestFree (t .places))))
+      go true start = ap not (seeks .points a .has-room (start-closed start))
+      go false start = refl
+
+  free-at : isAlone (f .heading .new) (f .heading .remaining .0) ≡ false → (isStart line && not (q .room)) ≡ false → isStart line ≡ true → lowestFree (t .places) ≡ At (q .at)
+  free-at a e start = seeks .points a .free-at (start-closed start) (roomy (q .room) (simp start at e))
+    where
       roomy : (b : Bool) → not b ≡ false → b ≡ true
       roomy true h = refl
       roomy false h = absurd (true≢false h)
@@ -118,7 +129,7 @@ module _ (t : Table) (store report : List ℕ) (f : Fields) (octets : List ℕ) 
     where
       go : (b : Bool) → isAlone (f .heading .new) (f .heading .remaining .0) ≡ b → refusedAs t store report 10 ≡ arrival t store report (q .key) f octets
       go true a = absurd (true≢false (sym (simp (alone-line a) at e)))
-      go false a = simp (rw (line-at a, seeks .points a .has-room) at e)
+      go false a = simp (rw (line-at a) at (sym (same-room a) ∙ e))
 
   pub is-carried : (isStart line && not (q .room)) ≡ false → carriedAt line t store report (q .key) f octets (q .at) (q .found) held ≡ arrival t store report (q .key) f octets
   unfolding carriedAt arrival effectOf
@@ -131,7 +142,7 @@ module _ (t : Table) (store report : List ℕ) (f : Fields) (octets : List ℕ) 
           let place : Found = placeOf (q .key) (t .places) in
           let same = effect-is t store (q .key) f octets (q .at) (q .found) held place (lowestFree (t .places)) (placeAt (t .places) place)
           (seeks .points a .open-at) (saved-is (t .places) (q .at) (q .found) held place (seeks .points a .open-at) there) line (free-at a e) in
-          ap (receptionOf t report) same ∙ rw (← line-at a) (simp (rw (seeks .points a .has-room) at e))
+          ap (receptionOf t report) same ∙ rw (← line-at a) (simp (sym (same-room a) ∙ e))
 
 -- a place of a sound table that is not open is free, and holds nothing
 free-zero : (registry : List Entry) (timer clock : ℕ) (p : Place) → placeSound registry timer clock p ≡ true → isOpen p ≡ false → (p .octets ≡ 0) × (p .segments ≡ 0)

@@ -249,8 +249,9 @@ pub fn is_sound(t: Table) -> bool
     let registry = t.registry;
     let places = t.places;
     let listed = registry::is_sound(registry);
+    let idle = idle_sound(places);
     let seen = look_over(places, registry, t.timer, t.clock);
-    let each = timed & listed & seen.sound & idle_sound(places);
+    let each = timed & listed & seen.sound & idle;
     let digests = seen.digests;
     if all_differ(digests, seen.open) {
         return each;

@@ -16,9 +16,9 @@ soonerOf found passes i = if eqb found placeCount then (if passes then i else pl
 abbrev pub foundAt : ℕ → Found
 foundAt i = if eqb i placeCount then Nothing else At i
 
--- where a key is open, and where a free place is, as one number
+-- where a key is open, or else where a free place is, as one number
 pub record Points (place room : Found) (r : Search) : Type 0 where
   pub inside : r .at < placeCount
   pub open-at : place ≡ (if r .found then At (r .at) else Nothing)
-  pub has-room : r .room ≡ isAt room
+  pub has-room : r .found ≡ false → r .room ≡ isAt room
   pub free-at : r .found ≡ false → r .room ≡ true → room ≡ At (r .at)

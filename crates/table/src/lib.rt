@@ -48,7 +48,7 @@ pub fn same_key(a: Key, b: Key) -> bool
     false
 }
 
-// The place that a key's segment is about: the key's own where it is found, or else the lowest free one where there is room, or else 0.
+// The place that a key's segment is about: the key's own where it is found, or else the lowest free one where there is room, or else 0. Where the key is found room says nothing.
 pub struct Search {
     pub at: usize,
     pub found: bool,
@@ -81,18 +81,11 @@ fn sooner(found: usize, passes: bool, i: usize) -> usize
     16
 }
 
-// What a search gives, by the numbers of the key's place and of the lowest free one; 16 is none.
-fn chosen(place: usize, room: usize) -> Search
-    requires { ⌜ (place ≤ 16) × (room ≤ 16) ⌝ }
-    ensures { λ r. ⌜ Points (foundAt place) (foundAt room) r ⌝ }
+// What a search gives that did not find the key, by the number of the lowest free place; 16 is none.
+fn unfound(room: usize) -> Search
+    requires { ⌜ room ≤ 16 ⌝ }
+    ensures { λ r. ⌜ Points Found.Nothing (foundAt room) r ⌝ }
 {
-    if place != 16 {
-        return Search {
-            at: place,
-            found: true,
-            room: room != 16,
-        };
-    }
     if room != 16 {
         return Search {
             at: room,
@@ -107,20 +100,25 @@ fn chosen(place: usize, room: usize) -> Search
     }
 }
 
-// The place that is open with a key, and the lowest free one: both in one go over the places.
+// The place that is open with a key, or else the lowest free one, in one go over the places.
 pub fn search_for(places: [Place; 16], k: Key) -> Search
     ensures { λ r. ⌜ Points (placeOf k places) (lowestFree places) r ⌝ }
 {
-    let mut place = 16;
     let mut room = 16;
     let mut i = 0;
     while i < 16 {
         let p = places[i];
-        place = sooner(place, has_key(p, k), i);
+        if has_key(p, k) {
+            return Search {
+                at: i,
+                found: true,
+                room: true,
+            };
+        }
         room = sooner(room, p.mark == 0, i);
         i += 1;
     }
-    chosen(place, room)
+    unfound(room)
 }
 
 // The lowest free place.
