@@ -1,4 +1,5 @@
-use mathlib.Core.Path.{refl, _∙_}
+use mathlib.Core.Path.{ap}
+use lib.ListN.{set}
 use Rattle.lines.proofs.Reported.{no-record}
 use Rattle.lines.proofs.Stepping.{step-answer}
 use Rattle.lines.specs.Carried.{carriedAt}
@@ -37,7 +38,7 @@ returns c =
     let s = c .before .before .before .before .before .before .before .before .before .before .before .before .before in
     rw (s .pre .1 .0) (
     record {
-      answered = step-answer (s .args .t) (s .args .at) _ _ _ _ _ (c .taken .ensures ∙ rw (c .before .open-place .ensures)) refl;
+      answered = step-answer (s .args .t) (s .args .at) _ _ _ _ _ (c .taken .ensures) (ap (set (s .args .t .places) (s .args .at)) (c .before .open-place .ensures));
       stored = c .before .before .before .before .before .before .before .save-at .ensures;
       reported = no-record _;
     }

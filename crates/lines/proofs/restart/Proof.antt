@@ -1,4 +1,5 @@
-use mathlib.Core.Path.{refl, _∙_}
+use mathlib.Core.Path.{ap}
+use lib.ListN.{set}
 use Rattle.lines.proofs.Reported.{one-record}
 use Rattle.lines.proofs.Stepping.{step-answer}
 use Rattle.lines.specs.Carried.{carriedAt}
@@ -34,7 +35,7 @@ returns c =
     let s = c .before .before .before .before .before .before .before .before .before .before .before .before .before .before in
     rw (s .pre .1) (
     record {
-      answered = step-answer (s .args .t) (s .args .at) _ _ _ _ _ (c .taken .ensures ∙ rw (c .before .begun-place .ensures)) refl;
+      answered = step-answer (s .args .t) (s .args .at) _ _ _ _ _ (c .taken .ensures) (ap (set (s .args .t .places) (s .args .at)) (c .before .begun-place .ensures));
       stored = c .before .before .before .before .save-at .ensures;
       reported = one-record _ _ _ _ (c .before .before .before .before .before .before .before .before .put-record .ensures .0) (c .before .before .before .before .before .before .before .before .before .before .record-with .ensures);
     }
