@@ -230,7 +230,6 @@ fn kept(held: Replay, kind: u8, body: &[u8]) -> Replay
 
 // A registry record: it stops after the first open.
 fn registers(held: Replay, kind: u8, body: &[u8], out: &mut [u8]) -> Progress
-    requires { ⌜ length (now body) ≡ 2 ⌝ }
     ensures { λ r. ⌜ Registered held kind (now (body .entry)) (now (out .entry)) r (now (out .exit)) ⌝ }
     ensures { λ r. ⌜ (r .used ≤ 3) × (r .written ≤ 5) ⌝ }
 {

@@ -1,6 +1,5 @@
 -- The item is a registry record, which has two octets, or an event.
 use denote.Ref.{now}
-use mathlib.Core.Path.{_∙_}
 use native.Mathlib.Omega.{arith}
 use Rattle.trace.proofs.Reading.{item-as, registers-two, body-most}
 use borrow.Author.Needs.{needs}
@@ -14,10 +13,7 @@ enum-told : tie.Need-enum-told
 enum-told c = search needs
 
 registers-requires : tie.Need-registers-requires
-registers-requires c κs =
-    let t = c .before in
-    let s = t .before .before .before .before .before .before .before in
-    s .pre .1 ∙ registers-two (s .args .kind) (s .args .body .now) (item-as _ _ _ _ (t .enum-told .given .1) (t .before .before .item-of .ensures))
+registers-requires c κs = search needs
 
 enum-known-item : tie.Need-enum-known-item
 enum-known-item c = search needs
