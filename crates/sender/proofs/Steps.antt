@@ -22,7 +22,7 @@ use Rattle.rules.specs.declared.Heading.{Heading}
 use Rattle.rules.specs.declared.Request.{Request}
 use Rattle.rules.specs.declared.Sent.{Sent}
 use Rattle.rules.specs.Promises.{OfSending}
-use Rattle.parameter.specs.Writing.{Writable}
+use Rattle.writing.specs.Writing.{Writable}
 use Rattle.sender.specs.Plan.{requestChecks, headerFor, cutChecks, pieceOf, planOf, headingWith, octetsWith, refusedAs, emitted, Emitted, Ready}
 use Rattle.sender.specs.declared.Piece.{Piece}
 use Rattle.sender.specs.declared.Plan.{Plan}

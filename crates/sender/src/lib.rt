@@ -224,7 +224,7 @@ fn emit(
             length: 0,
         };
     }
-    parameter::write(area, g, origin, destination, information);
+    writing::write(area, g, origin, destination, information);
     Sent {
         refusal: 0,
         count: p.count as u8,

@@ -1,8 +1,8 @@
 use mathlib.Core.Path.{refl}
 use borrow.Author.Tests.{lt-ltb, le-ltb}
 use borrow.Author.Needs.{needs}
-use Rattle.parameter.proofs.put_context.Statement.{statement}
-use Rattle.parameter.proofs.put_context.Tie as tie
+use Rattle.writing.proofs.put_context.Statement.{statement}
+use Rattle.writing.proofs.put_context.Tie as tie
 
 add-t7 : tie.Need-add-t7
 add-t7 c = search needs

@@ -1,6 +1,6 @@
 use borrow.Author.Needs.{needs}
-use Rattle.parameter.proofs.octet3.Statement.{statement}
-use Rattle.parameter.proofs.octet3.Tie as tie
+use Rattle.writing.proofs.octet3.Statement.{statement}
+use Rattle.writing.proofs.octet3.Tie as tie
 
 add-result : tie.Need-add-result
 add-result c = search needs

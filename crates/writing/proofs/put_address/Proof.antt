@@ -2,8 +2,8 @@ use Prim.Native.Nat.{_+_}
 use mathlib.Core.Path.{refl}
 use Rattle.octets.proofs.Splice.{wrote-then}
 use borrow.Author.Needs.{needs}
-use Rattle.parameter.proofs.put_address.Statement.{statement}
-use Rattle.parameter.proofs.put_address.Tie as tie
+use Rattle.writing.proofs.put_address.Statement.{statement}
+use Rattle.writing.proofs.put_address.Tie as tie
 
 cast-t6 : tie.Need-cast-t6
 cast-t6 c = search needs

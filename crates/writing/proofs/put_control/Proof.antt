@@ -1,8 +1,8 @@
 use mathlib.Core.Path.{refl, _∙_}
 use native.Mathlib.Omega.{arith}
 use borrow.Author.Needs.{needs}
-use Rattle.parameter.proofs.put_control.Statement.{statement}
-use Rattle.parameter.proofs.put_control.Tie as tie
+use Rattle.writing.proofs.put_control.Statement.{statement}
+use Rattle.writing.proofs.put_control.Tie as tie
 
 add-t9 : tie.Need-add-t9
 add-t9 c = search needs

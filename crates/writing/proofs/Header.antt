@@ -10,7 +10,7 @@ use Rattle.octets.specs.Splice.{splice, Wrote}
 use Rattle.octets.proofs.Splice.{wrote-then}
 use Rattle.rules.specs.Layout.{contextOctets, sequenceOctets, isAlone, addressesOctets, parameterOctets}
 use Rattle.rules.specs.declared.Heading.{Heading}
-use Rattle.parameter.specs.Writing.{controlOctets}
+use Rattle.writing.specs.Writing.{controlOctets}
 
 pub context-short : (x : ℕ) → length (contextOctets x) ≤ 2
 context-short x = go (ltb x 128) refl

@@ -1,9 +1,9 @@
 use mathlib.Core.Path.{refl}
-use Rattle.parameter.proofs.Header.{context-short, control-short, written}
+use Rattle.writing.proofs.Header.{context-short, control-short, written}
 use native.Mathlib.Omega.{arith}
 use borrow.Author.Needs.{needs}
-use Rattle.parameter.proofs.write.Statement.{statement}
-use Rattle.parameter.proofs.write.Tie as tie
+use Rattle.writing.proofs.write.Statement.{statement}
+use Rattle.writing.proofs.write.Tie as tie
 
 put-context-requires : tie.Need-put-context-requires
 put-context-requires c κs = search needs

@@ -3,8 +3,8 @@ use native.Mathlib.Nat.{add-zero}
 use borrow.Author.Tests.{eq-eqb, ne-eqb}
 use Rattle.octets.proofs.Splice.{splice-nil, wrote-then}
 use borrow.Author.Needs.{needs}
-use Rattle.parameter.proofs.put_addresses.Statement.{statement}
-use Rattle.parameter.proofs.put_addresses.Tie as tie
+use Rattle.writing.proofs.put_addresses.Statement.{statement}
+use Rattle.writing.proofs.put_addresses.Tie as tie
 
 returns : tie.Need-returns
 returns c = simp (ne-eqb _ _ (c .if1 .taken)) (record { place = sym (add-zero _); stored = sym (splice-nil _ _) })
