@@ -5,13 +5,14 @@ use rules::Table;
 ghost use mathlib.Core.Path.{_≡_};
 ghost use mathlib.Core.Bool.{_&&_};
 ghost use mathlib.Core.List.{map};
-ghost use Prim.Native.Nat.{_≤_};
+ghost use Prim.Native.Nat.{_*_, _≤_};
 ghost use lib.Dec.{eqb, ltb};
 ghost use lib.ListN.{take, drop};
 ghost use Rattle.rules.specs.General.{if_then_else_, every, everyTwo, those};
 ghost use Rattle.rules.specs.Places.{isOpen, isFree};
 ghost use Rattle.soundness.specs.Digest.{digest, isOther};
 ghost use Rattle.soundness.specs.Halves.{soundIfOpen, soundIfIdle};
+ghost use Rattle.soundness.specs.Weights.{wordMost};
 ghost use Rattle.rules.specs.Soundness.{isZero, addressSound, openSound, freeSound, placesApart, sound};
 
 // An octet where it stands at an index or behind it; before it 0.
@@ -71,7 +72,7 @@ fn open_sound(registry: [Entry; 8], timer: u32, clock: u32, p: Place) -> bool
 // Four octets as one number: where they stand in a row they are read at once.
 fn word(a: u8, b: u8, c: u8, d: u8) -> u64
     ensures { λ r. ⌜ eqb r 0 ≡ (isZero a && isZero b && isZero c && isZero d) ⌝ }
-    ensures { λ r. ⌜ r ≤ 4294967295 ⌝ }
+    ensures { λ r. ⌜ r ≤ wordMost ⌝ }
 {
     (a as u64) + 256 * (b as u64) + 65536 * (c as u64) + 16777216 * (d as u64)
 }
@@ -79,7 +80,7 @@ fn word(a: u8, b: u8, c: u8, d: u8) -> u64
 // What an address weighs: 0 where all its octets are.
 fn address_weight(a: [u8; 20]) -> u64
     ensures { λ r. ⌜ eqb r 0 ≡ every isZero a ⌝ }
-    ensures { λ r. ⌜ r ≤ 21474836475 ⌝ }
+    ensures { λ r. ⌜ r ≤ 5 * wordMost ⌝ }
 {
     word(a[0], a[1], a[2], a[3])
         + word(a[4], a[5], a[6], a[7])
@@ -91,7 +92,7 @@ fn address_weight(a: [u8; 20]) -> u64
 // What a place weighs: 0 where it is free, and all zero.
 fn weight(p: Place) -> u64
     ensures { λ r. ⌜ eqb r 0 ≡ (isFree p && freeSound p) ⌝ }
-    ensures { λ r. ⌜ r ≤ 38654705655 ⌝ }
+    ensures { λ r. ⌜ r ≤ 9 * wordMost ⌝ }
 {
     let address = p.key.address;
     let names = (p.key.association as u64) + 65536 * (p.key.context.0 as u64);
@@ -103,7 +104,7 @@ fn weight(p: Place) -> u64
 // What a place weighs where it is not open.
 fn idle_weight(p: Place) -> u64
     ensures { λ r. ⌜ eqb r 0 ≡ soundIfIdle p ⌝ }
-    ensures { λ r. ⌜ r ≤ 38654705655 ⌝ }
+    ensures { λ r. ⌜ r ≤ 9 * wordMost ⌝ }
 {
     let w = weight(p);
     if p.mark == 1 {

@@ -8,13 +8,14 @@ use borrow.Author.Needs.{needs}
 use Rattle.rules.specs.General.{every}
 use Rattle.rules.specs.Places.{noPlace}
 use Rattle.registry.proofs.Along.{every-so-far, every-over}
+use Rattle.soundness.specs.Weights.{wordMost}
 use Rattle.soundness.specs.Halves.{soundIfIdle}
 use Rattle.soundness.proofs.Zeros.{sum-nought}
 use Rattle.soundness.proofs.idle_sound.Statement.{statement}
 use Rattle.soundness.proofs.idle_sound.Tie as tie
 
 abbrev Inv-loop : tie.InvT-loop
-Inv-loop places sum₀ i₀ sum i = (every soundIfIdle places ≡ (eqb sum 0 && every soundIfIdle (drop i places))) × (sum ≤ 38654705655 * i)
+Inv-loop places sum₀ i₀ sum i = (every soundIfIdle places ≡ (eqb sum 0 && every soundIfIdle (drop i places))) × (sum ≤ 9 * wordMost * i)
 
 abbrev μ-loop : tie.MeasureT-loop
 μ-loop places sum₀ i₀ sum i = 16 - i
