@@ -8,7 +8,7 @@ use borrow.Author.Tests.{eqb-true}
 use lib.Dec.{ltb}
 use lib.ListN.{length, getD}
 use Rattle.rules.specs.General.{every}
-use Rattle.rules.specs.Numbers.{storeLeast, parameterMost, addressMost, dataMost}
+use Rattle.rules.specs.Numbers.{storeLeast, parameterMost, addressMost}
 use Rattle.rules.specs.Refusals.{Check, _when_, accepted, judged}
 use Rattle.rules.specs.Layout.{isAlone, fieldsOf, readingChecks}
 use Rattle.rules.specs.Records.{recordLength}
@@ -32,9 +32,10 @@ use Rattle.rules.specs.declared.Found.{Found}
 use Rattle.rules.specs.declared.Found.the-variants.{At}
 use Rattle.rules.specs.declared.Line.{Line}
 use Rattle.rules.specs.declared.Line.the-variants.{Unsegmented, Broken, Restart, Start, Final, Next}
-use Rattle.lines.specs.Carried.{foundIf, heldIf, carriedAt, answerOf, Leads, Tells}
+use Rattle.lines.specs.Carried.{foundIf, heldIf, carriedAt, answerOf, Leads, Tells, Fit}
 use Rattle.lines.proofs.Stepping.{kept}
 use Rattle.lines.specs.declared.Step.{Step}
+use Rattle.lines.specs.declared.Judged.{Judged}
 use Rattle.joining.specs.Arrival.{refusedAs, refusedWith, Seeks, arrival}
 use Rattle.joining.specs.declared.Sought.{Sought}
 
@@ -81,6 +82,10 @@ module _ (t : Table) (store : List ℕ) (key : Key) (f : Fields) (octets : List 
 saved-is : (ps : List Place) (at : ℕ) (found : Bool) (held : Place) (place : Found) → place ≡ foundIf found at → held ≡ getD ps at noPlace → placeAt ps place ≡ heldIf found held
 saved-is ps at true held place e h = rw e (sym h)
 saved-is ps at false held place e h = rw e
+
+-- a segment as its line is carried out
+abbrev pub judgedOf : Table → Fields → Sought → Place → Judged
+judgedOf t f q held = record { key = q .key; fields = f; held = held; clock = t .clock; at = q .at; found = q .found }
 
 -- what the steps find of a segment
 module _ (t : Table) (store report : List ℕ) (f : Fields) (octets : List ℕ) (q : Sought) (held : Place) (line : Line)
@@ -131,12 +136,12 @@ module _ (t : Table) (store report : List ℕ) (f : Fields) (octets : List ℕ) 
       go true a = absurd (true≢false (sym (simp (alone-line a) at e)))
       go false a = simp (rw (line-at a) at (sym (same-room a) ∙ e))
 
-  pub is-carried : (isStart line && not (q .room)) ≡ false → carriedAt line t store report (q .key) f octets (q .at) (q .found) held ≡ arrival t store report (q .key) f octets
+  pub is-carried : (isStart line && not (q .room)) ≡ false → carriedAt line t store report (judgedOf t f q held) octets ≡ arrival t store report (q .key) f octets
   unfolding carriedAt arrival effectOf
   is-carried e = go (isAlone (f .heading .new) (f .heading .remaining .0)) refl
     where
       go : (b : Bool) → isAlone (f .heading .new) (f .heading .remaining .0) ≡ b
-          → carriedAt line t store report (q .key) f octets (q .at) (q .found) held ≡ arrival t store report (q .key) f octets
+          → carriedAt line t store report (judgedOf t f q held) octets ≡ arrival t store report (q .key) f octets
       go true a = rw (alone-line a, line-alone (isAt (placeOf (q .key) (t .places))) (placeAt (t .places) (placeOf (q .key) (t .places)) .remaining .0) (placeAt (t .places) (placeOf (q .key) (t .places)) .octets) (f .heading) (length octets) a)
       go false a =
           let place : Found = placeOf (q .key) (t .places) in
@@ -152,16 +157,12 @@ free-zero registry timer clock p e o =
     let all = simp and-eq-true-iff at free in
     (eqb-true _ _ (all .1 .0 .0 .0 .0 .0 .1), eqb-true _ _ (all .1 .0 .1))
 
--- what a place of a sound table holds
-pub record Fit (p : Place) : Type 0 where
-  pub octets : p .octets ≤ dataMost
-  pub segments : p .segments ≤ 9
-
 every-get : {A : Type 0} (f : A → Bool) (l : List A) (d : A) (i : ℕ) → every f l ≡ true → f d ≡ true → f (getD l i d) ≡ true
 every-get f [] d i e h = h
 every-get f (x ∷ l) d zero e h = and-eq-true-iff (f x) (every f l) .0 e .0
 every-get f (x ∷ l) d (suc i) e h = every-get f l d i (and-eq-true-iff (f x) (every f l) .0 e .1) h
 
+-- what a place of a sound table holds
 pub fit : (t : Table) (i : ℕ) → sound t ≡ true → Fit (getD (t .places) i noPlace)
 unfolding freeSound
 fit t i s =

@@ -1,4 +1,5 @@
 // Segments joined: the segment call, and the delivery of what was joined.
+use lines::Judged;
 use lines::Step;
 use parameter::Reading;
 use rules::Decision;
@@ -142,7 +143,15 @@ fn arrive(
         return refused(10, held);
     }
     let key = q.key;
-    lines::carry_out(line, t, store, report, key, f, octets, q.at, q.found, held)
+    let j = Judged {
+        key,
+        fields: f,
+        held,
+        clock: t.clock,
+        at: q.at,
+        found: q.found,
+    };
+    lines::carry_out(line, j, store, report, octets)
 }
 
 // What becomes of a segment at a table, whether sound or not.

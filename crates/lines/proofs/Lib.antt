@@ -1,2 +1,3 @@
+mod Carrying
 pub mod Reported
 pub mod Stepping

@@ -13,11 +13,15 @@ use Rattle.rules.specs.Receiving.{withPlaces}
 use Rattle.rules.specs.declared.Place.{Place}
 use Rattle.rules.specs.declared.Table.{Table}
 use Rattle.rules.specs.declared.Decision.{Decision}
-use Rattle.lines.specs.Carried.{foundIf, heldIf, answerOf}
+use Rattle.lines.specs.Carried.{foundIf, heldIf, stepTo, answerOf}
 use Rattle.lines.specs.declared.Step.{Step}
 
+-- what a step puts is what its place was made to be
+pub puts : {r : Step} {p q : Place} {d : Decision} {n : ℕ} → r ≡ stepTo p d n → p ≡ q → r ≡ stepTo q d n
+puts {r} {p} {q} {d} {n} e f = e ∙ ap (λ (x : Place). stepTo x d n) f
+
 pub step-answer : (t : Table) (at : ℕ) (r : Step) (put : Place) (d : Decision) (n : ℕ) (ps : List Place)
-    → r ≡ record { put = put; decision = d; refusal = 0; records = n } → set (t .places) at put ≡ ps
+    → r ≡ stepTo put d n → set (t .places) at put ≡ ps
     → answerOf t at r ≡ record { table = withPlaces t ps; decision = d; refusal = 0; records = n }
 step-answer t at r put d n ps e f = ap (answerOf t at) e ∙ ap (λ (l : List Place). record { table = withPlaces t l; decision = d; refusal = 0; records = n }) f
 

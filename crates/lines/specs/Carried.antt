@@ -7,16 +7,19 @@ use lib.ListN.{length, getD, set}
 use Rattle.rules.specs.General.{if_then_else_}
 use Rattle.rules.specs.Numbers.{dataMost, storeLeast, placeCount}
 use Rattle.rules.specs.Places.{freePlace, noPlace}
-use Rattle.rules.specs.Receiving.{effectOf, Reception, receptionOf, withPlaces}
+use Rattle.octets.specs.Splice.{splice}
+use Rattle.rules.specs.Records.{recordOctets}
+use Rattle.rules.specs.Receiving.{openPlace, effectOf, Reception, receptionOf, withPlaces}
 use Rattle.lines.specs.declared.Step.{Step}
-use Rattle.rules.specs.declared.Key.{Key}
+use Rattle.lines.specs.declared.Judged.{Judged}
 use Rattle.rules.specs.declared.Place.{Place}
 use Rattle.rules.specs.declared.Table.{Table}
-use Rattle.rules.specs.declared.Fields.{Fields}
+use Rattle.rules.specs.declared.Record.{Record}
 use Rattle.rules.specs.declared.Found.{Found}
 use Rattle.rules.specs.declared.Found.the-variants.{At, Nothing}
 use Rattle.rules.specs.declared.Line.{Line}
 use Rattle.rules.specs.declared.Line.the-variants.{Unsegmented, Broken, Restart, Start, Final, Next}
+use Rattle.rules.specs.declared.Decision.{Decision}
 use Rattle.rules.specs.declared.Received.{Received}
 
 -- the key's place and what was saved there, where the key is open
@@ -26,10 +29,26 @@ foundIf isOpen at = if isOpen then At at else Nothing
 abbrev pub heldIf : Bool → Place → Place
 heldIf isOpen held = if isOpen then held else freePlace
 
--- a line carried out at place `at`, which holds `held`
-unfoldable pub carriedAt : Line → Table → List ℕ → List ℕ → Key → Fields → List ℕ → ℕ → Bool → Place → Reception
-carriedAt line t store report key f octets at isOpen held =
-    receptionOf t report (effectOf line t store key f octets (foundIf isOpen at) (heldIf isOpen held) (At at))
+-- a table at the time of a judged segment, whose place holds what was judged
+abbrev pub Holds : Table → Judged → Type 0
+Holds t j = (t .clock ≡ j .clock) × (j .held ≡ getD (t .places) (j .at) noPlace)
+
+-- a line carried out at the place that the segment is about
+unfoldable pub carriedAt : Line → Table → List ℕ → List ℕ → Judged → List ℕ → Reception
+carriedAt line t store report j octets =
+    receptionOf t report (effectOf line t store (j .key) (j .fields) octets (foundIf (j .found) (j .at)) (heldIf (j .found) (j .held)) (At (j .at)))
+
+-- a step that was not refused
+abbrev pub stepTo : Place → Decision → ℕ → Step
+stepTo put decision records = record { put = put; decision = decision; refusal = 0; records = records }
+
+-- the place of a sequence that begins with a segment of n octets
+abbrev pub begunBy : Judged → ℕ → Place
+begunBy j n = openPlace (j .key) (j .fields .heading .remaining) (j .fields .heading .instruction) 1 n (j .clock)
+
+-- a report area before and after a record was written to its front
+abbrev pub Reports : List ℕ → Record → List ℕ → Type 0
+Reports before r after = after ≡ splice before 0 (recordOctets r)
 
 -- the answer that a step makes of a table: one place changes
 abbrev pub answerOf : Table → ℕ → Step → Received
@@ -50,11 +69,14 @@ Tells isOpen saved n Start = isOpen ≡ false
 Tells isOpen saved n Final = (isOpen ≡ true) × (saved + n ≤ dataMost)
 Tells isOpen saved n Next = (isOpen ≡ true) × (saved + n ≤ dataMost)
 
--- what carrying out a line is given: areas that are long enough, a short segment, a place of the table and what a sound one holds
-pub record Ready (t : Table) (store octets : List ℕ) (at : ℕ) (held : Place) : Type 0 where
+-- what a place of a sound table holds
+pub record Fit (p : Place) : Type 0 where
+  pub octets : p .octets ≤ dataMost
+  pub segments : p .segments ≤ 9
+
+-- what carrying out a line is given: a store that is long enough, a short segment, a place of the table and what a sound one holds
+pub record Ready (j : Judged) (store octets : List ℕ) : Type 0 where
   pub enough : storeLeast ≤ length store
   pub short : length octets ≤ 255
-  pub inside : at < placeCount
-  pub there : held ≡ getD (t .places) at noPlace
-  pub full : held .octets ≤ dataMost
-  pub counted : held .segments ≤ 9
+  pub inside : j .at < placeCount
+  pub fits : Fit (j .held)

@@ -14,10 +14,11 @@ ghost use mathlib.Core.Path.{_≡_};
 ghost use Prim.Native.Nat.{_+_, _≤_, _<_};
 ghost use lib.ListN.{length};
 ghost use Rattle.rules.specs.General.{if_then_else_};
-ghost use Rattle.rules.specs.Numbers.{stretchLength, storeLeast, placeCount};
+ghost use Rattle.rules.specs.Numbers.{stretchLength, dataMost, storeLeast, placeCount};
+ghost use Rattle.rules.specs.Records.{delivered, lost};
 ghost use Rattle.rules.specs.Places.{freePlace};
-ghost use Rattle.rules.specs.Receiving.{lineOf, isStart, openPlace, begun, recordWith, saveAt};
-ghost use Rattle.lines.specs.Carried.{foundIf, heldIf, Leads, Tells, Ready, carriedAt};
+ghost use Rattle.rules.specs.Receiving.{lineOf, isStart, openPlace, longer, recordWith, saveAt};
+ghost use Rattle.lines.specs.Carried.{foundIf, heldIf, stepTo, begunBy, Reports, Leads, Holds, Tells, Fit, Ready, carriedAt};
 
 // What becomes of a segment: what its place holds afterwards, and the answer but for the table.
 pub struct Step {
@@ -25,6 +26,16 @@ pub struct Step {
     pub decision: Decision,
     pub refusal: u8,
     pub records: u8,
+}
+
+// A segment judged: its sequence's key, its fields, the place that it is about and what that holds, whether the key is open there, and the time.
+pub struct Judged {
+    pub key: Key,
+    pub fields: Fields,
+    pub held: Place,
+    pub clock: u32,
+    pub at: usize,
+    pub found: bool,
 }
 
 // The line that applies: see the paper's seven.
@@ -73,17 +84,12 @@ fn save_at(store: &mut [u8], place: usize, at: usize, octets: &[u8])
     octets::put_at(&mut store[start..end], at, octets);
 }
 
-// An open place after a segment.
-fn open_place(
-    key: Key,
-    remaining: Remaining,
-    instruction: u8,
-    segments: u8,
-    octets: u16,
-    start: u32,
-) -> Place
-    ensures { λ r. ⌜ r ≡ openPlace key remaining instruction segments octets start ⌝ }
+// The place of a segment's sequence, open after it.
+fn open_place(j: Judged, instruction: u8, segments: u8, octets: u16, start: u32) -> Place
+    ensures { λ r. ⌜ r ≡ openPlace (j .key) (j .fields .heading .remaining) instruction segments octets start ⌝ }
 {
+    let key = j.key;
+    let remaining = j.fields.heading.remaining;
     Place {
         key,
         octets,
@@ -95,18 +101,28 @@ fn open_place(
     }
 }
 
-// The record that ends a sequence: Delivered, or Lost for a cause.
-fn record_with(kind: u8, cause: u8, key: Key, instruction: u8, segments: u8, octets: u16) -> Record
-    ensures { λ r. ⌜ r ≡ recordWith kind cause key instruction segments octets ⌝ }
+// Reports the end of a segment's sequence: Delivered, or Lost for a cause.
+fn tell(
+    j: Judged,
+    report: &mut [u8],
+    kind: u8,
+    cause: u8,
+    instruction: u8,
+    segments: u8,
+    octets: u16,
+)
+    ensures { λ _. ⌜ Reports (now (report .entry)) (recordWith kind cause (j .key) instruction segments octets) (now (report .exit)) ⌝ }
 {
-    Record {
+    let key = j.key;
+    let record = Record {
         key,
         octets,
         kind,
         instruction,
         cause,
         segments,
-    }
+    };
+    report::put_record(report, 0, record);
 }
 
 // The place as a decision names it; none where the sequence is not open.
@@ -120,38 +136,39 @@ fn found_if(is_open: bool, at: usize) -> Found
 }
 
 // What was saved: nothing where the sequence is not open.
-fn held_if(is_open: bool, held: Place) -> Place
-    ensures { λ r. ⌜ r ≡ heldIf «is_open» held ⌝ }
+fn saved_in(j: Judged) -> Place
+    ensures { λ r. ⌜ r ≡ heldIf (j .found) (j .held) ⌝ }
 {
-    if is_open {
-        return held;
+    if j.found {
+        return j.held;
     }
     table::free_place()
 }
 
 // The place of a sequence that is lost: free. Where none is open the place stays as it is.
-fn freed_if(is_open: bool, held: Place) -> Place
-    ensures { λ r. ⌜ r ≡ (if «is_open» then freePlace else held) ⌝ }
+fn freed(j: Judged) -> Place
+    ensures { λ r. ⌜ r ≡ (if j .found then freePlace else j .held) ⌝ }
 {
-    if is_open {
+    let stays = j.held;
+    if j.found {
         return table::free_place();
     }
-    held
+    stays
 }
 
 // The instruction of a sequence: its first segment's, or this one's where none is open.
-fn instruction_of(is_open: bool, held: Place, f: Fields) -> u8
-    ensures { λ r. ⌜ r ≡ (if «is_open» then held .instruction else f .heading .instruction) ⌝ }
+fn instruction_of(j: Judged) -> u8
+    ensures { λ r. ⌜ r ≡ (if j .found then j .held .instruction else j .fields .heading .instruction) ⌝ }
 {
-    if is_open {
-        return held.instruction;
+    if j.found {
+        return j.held.instruction;
     }
-    f.heading.instruction
+    j.fields.heading.instruction
 }
 
 // A step that was not refused.
 fn taken(put: Place, decision: Decision, records: u8) -> Step
-    ensures { λ r. ⌜ r ≡ record { put = put; decision = decision; refusal = 0; records = records } ⌝ }
+    ensures { λ r. ⌜ r ≡ stepTo put decision records ⌝ }
 {
     Step {
         put,
@@ -162,203 +179,123 @@ fn taken(put: Place, decision: Decision, records: u8) -> Step
 }
 
 // The place of a sequence that begins with this segment, of n octets.
-fn begun_place(t: Table, key: Key, f: Fields, n: usize) -> Place
+fn begun_place(j: Judged, n: usize) -> Place
     requires { ⌜ n ≤ 255 ⌝ }
-    ensures { λ r. ⌜ r ≡ begun t key (f .heading) n ⌝ }
+    ensures { λ r. ⌜ r ≡ begunBy j n ⌝ }
 {
-    let heading = f.heading;
-    let remaining = heading.remaining;
-    open_place(key, remaining, heading.instruction, 1, n as u16, t.clock)
+    open_place(j, j.fields.heading.instruction, 1, n as u16, j.clock)
 }
 
-// An unsegmented parameter is delivered at once and touches no place.
-fn unsegmented(
-    t: Table,
-    store: &mut [u8],
-    report: &mut [u8],
-    key: Key,
-    f: Fields,
-    octets: &[u8],
-    at: usize,
-    is_open: bool,
-    held: Place,
-) -> Step
-    requires { ⌜ Ready t (now store) (now octets) at held ⌝ }
-    ensures { λ r. ⌜ Leads (carriedAt Line.Unsegmented t (now (store .entry)) (now (report .entry)) key f (now (octets .entry)) at «is_open» held) t at r (now (store .exit)) (now (report .exit)) ⌝ }
+// An unsegmented parameter, with n octets of information, is delivered at once and touches no place.
+fn unsegmented(j: Judged, report: &mut [u8], n: usize) -> Step
+    requires { ⌜ n ≤ 255 ⌝ }
+    ensures { λ r. ⌜ r ≡ stepTo (j .held) (Decision.Delivered (Part.OfParameter (j .fields .information) n)) 1 ⌝ }
+    ensures { λ _. ⌜ Reports (now (report .entry)) (recordWith delivered 0 (j .key) (j .fields .heading .instruction) 1 n) (now (report .exit)) ⌝ }
 {
-    let n = octets.len();
-    let heading = f.heading;
-    let r = record_with(16, 0, key, heading.instruction, 1, n as u16);
-    report::put_record(report, 0, r);
+    let instruction = j.fields.heading.instruction;
+    tell(j, report, 16, 0, instruction, 1, n as u16);
     let part = Part::OfParameter {
-        start: f.information,
+        start: j.fields.information,
         length: n,
     };
+    let held = j.held;
     taken(held, Decision::Delivered(part), 1)
 }
 
-// Lines 1, 4, 5 and 6: what was saved, if anything, and this segment are lost.
-fn broken(
-    cause: u8,
-    t: Table,
-    store: &mut [u8],
-    report: &mut [u8],
-    key: Key,
-    f: Fields,
-    octets: &[u8],
-    at: usize,
-    is_open: bool,
-    held: Place,
-) -> Step
-    requires { ⌜ Ready t (now store) (now octets) at held ⌝ }
-    ensures { λ r. ⌜ Leads (carriedAt (Line.Broken cause) t (now (store .entry)) (now (report .entry)) key f (now (octets .entry)) at «is_open» held) t at r (now (store .exit)) (now (report .exit)) ⌝ }
+// Lines 1, 4, 5 and 6: what was saved, if anything, and this segment, of n octets, are lost.
+fn broken(cause: u8, j: Judged, report: &mut [u8], n: usize) -> Step
+    requires { ⌜ (n ≤ 255) × Fit (j .held) ⌝ }
+    ensures { λ r. ⌜ r ≡ stepTo (if j .found then freePlace else j .held) (Decision.Lost cause (foundIf (j .found) (j .at))) 1 ⌝ }
+    ensures { λ _. ⌜ Reports (now (report .entry)) (recordWith lost cause (j .key) (if j .found then j .held .instruction else j .fields .heading .instruction) (heldIf (j .found) (j .held) .segments + 1) (heldIf (j .found) (j .held) .octets + n)) (now (report .exit)) ⌝ }
 {
-    let n = octets.len() as u16;
-    let instruction = instruction_of(is_open, held, f);
-    let p = held_if(is_open, held);
-    let r = record_with(17, cause, key, instruction, p.segments + 1, p.octets + n);
-    report::put_record(report, 0, r);
-    let place = found_if(is_open, at);
-    taken(freed_if(is_open, held), Decision::Lost(cause, place), 1)
+    let p = saved_in(j);
+    let octets = p.octets + (n as u16);
+    let segments = p.segments + 1;
+    tell(j, report, 17, cause, instruction_of(j), segments, octets);
+    let place = found_if(j.found, j.at);
+    taken(freed(j), Decision::Lost(cause, place), 1)
 }
 
 // Line 2: what was saved is lost, and this segment starts the sequence in the same place.
-fn restart(
-    t: Table,
-    store: &mut [u8],
-    report: &mut [u8],
-    key: Key,
-    f: Fields,
-    octets: &[u8],
-    at: usize,
-    is_open: bool,
-    held: Place,
-) -> Step
-    requires { ⌜ Ready t (now store) (now octets) at held ⌝ }
-    requires { ⌜ Tells «is_open» (held .octets) (length (now octets)) Line.Restart ⌝ }
-    ensures { λ r. ⌜ Leads (carriedAt Line.Restart t (now (store .entry)) (now (report .entry)) key f (now (octets .entry)) at «is_open» held) t at r (now (store .exit)) (now (report .exit)) ⌝ }
+fn restart(j: Judged, store: &mut [u8], report: &mut [u8], octets: &[u8]) -> Step
+    requires { ⌜ Ready j (now store) (now octets) ⌝ }
+    ensures { λ r. ⌜ r ≡ stepTo (begunBy j (length (now (octets .entry)))) (Decision.Lost 3 (Found.At (j .at))) 1 ⌝ }
+    ensures { λ _. ⌜ now (store .exit) ≡ saveAt (now (store .entry)) (j .at) 0 (now (octets .entry)) ⌝ }
+    ensures { λ _. ⌜ Reports (now (report .entry)) (recordWith lost 3 (j .key) (j .held .instruction) (j .held .segments) (j .held .octets)) (now (report .exit)) ⌝ }
 {
-    let r = record_with(17, 3, key, held.instruction, held.segments, held.octets);
-    report::put_record(report, 0, r);
-    save_at(store, at, 0, octets);
-    let next = begun_place(t, key, f, octets.len());
-    taken(next, Decision::Lost(3, Found::At(at)), 1)
+    let instruction = j.held.instruction;
+    tell(
+        j,
+        report,
+        17,
+        3,
+        instruction,
+        j.held.segments,
+        j.held.octets,
+    );
+    save_at(store, j.at, 0, octets);
+    let next = begun_place(j, octets.len());
+    taken(next, Decision::Lost(3, Found::At(j.at)), 1)
 }
 
 // Line 3: saved in the place for a new sequence.
-fn start(
-    t: Table,
-    store: &mut [u8],
-    report: &mut [u8],
-    key: Key,
-    f: Fields,
-    octets: &[u8],
-    at: usize,
-    is_open: bool,
-    held: Place,
-) -> Step
-    requires { ⌜ Ready t (now store) (now octets) at held ⌝ }
-    ensures { λ r. ⌜ Leads (carriedAt Line.Start t (now (store .entry)) (now (report .entry)) key f (now (octets .entry)) at «is_open» held) t at r (now (store .exit)) (now (report .exit)) ⌝ }
+fn start(j: Judged, store: &mut [u8], octets: &[u8]) -> Step
+    requires { ⌜ Ready j (now store) (now octets) ⌝ }
+    ensures { λ r. ⌜ r ≡ stepTo (begunBy j (length (now (octets .entry)))) (Decision.Saved (j .at)) 0 ⌝ }
+    ensures { λ _. ⌜ now (store .exit) ≡ saveAt (now (store .entry)) (j .at) 0 (now (octets .entry)) ⌝ }
 {
-    save_at(store, at, 0, octets);
-    let next = begun_place(t, key, f, octets.len());
-    taken(next, Decision::Saved(at), 0)
+    save_at(store, j.at, 0, octets);
+    let next = begun_place(j, octets.len());
+    taken(next, Decision::Saved(j.at), 0)
 }
 
 // Line 7, none remaining: saved too, and delivered.
-fn finish(
-    t: Table,
-    store: &mut [u8],
-    report: &mut [u8],
-    key: Key,
-    f: Fields,
-    octets: &[u8],
-    at: usize,
-    is_open: bool,
-    held: Place,
-) -> Step
-    requires { ⌜ Ready t (now store) (now octets) at held ⌝ }
-    requires { ⌜ Tells «is_open» (held .octets) (length (now octets)) Line.Final ⌝ }
-    ensures { λ r. ⌜ Leads (carriedAt Line.Final t (now (store .entry)) (now (report .entry)) key f (now (octets .entry)) at «is_open» held) t at r (now (store .exit)) (now (report .exit)) ⌝ }
+fn finish(j: Judged, store: &mut [u8], report: &mut [u8], octets: &[u8]) -> Step
+    requires { ⌜ Ready j (now store) (now octets) × (j .held .octets + length (now octets) ≤ dataMost) ⌝ }
+    ensures { λ r. ⌜ r ≡ stepTo freePlace (Decision.Delivered (Part.OfStore (j .at) (j .held .octets + length (now (octets .entry))))) 1 ⌝ }
+    ensures { λ _. ⌜ now (store .exit) ≡ saveAt (now (store .entry)) (j .at) (j .held .octets) (now (octets .entry)) ⌝ }
+    ensures { λ _. ⌜ Reports (now (report .entry)) (recordWith delivered 0 (j .key) (j .held .instruction) (j .held .segments + 1) (j .held .octets + length (now (octets .entry)))) (now (report .exit)) ⌝ }
 {
-    let n = octets.len();
-    let saved = held.octets as usize;
-    save_at(store, at, saved, octets);
-    let total = saved + n;
-    let r = record_with(
-        16,
-        0,
-        key,
-        held.instruction,
-        held.segments + 1,
-        total as u16,
-    );
-    report::put_record(report, 0, r);
+    let saved = j.held.octets as usize;
+    save_at(store, j.at, saved, octets);
+    let total = saved + octets.len();
+    let segments = j.held.segments + 1;
+    tell(j, report, 16, 0, j.held.instruction, segments, total as u16);
     let free = table::free_place();
     let part = Part::OfStore {
-        place: at,
+        place: j.at,
         length: total,
     };
     taken(free, Decision::Delivered(part), 1)
 }
 
 // Line 7, more remaining: saved.
-fn go_on(
-    t: Table,
-    store: &mut [u8],
-    report: &mut [u8],
-    key: Key,
-    f: Fields,
-    octets: &[u8],
-    at: usize,
-    is_open: bool,
-    held: Place,
-) -> Step
-    requires { ⌜ Ready t (now store) (now octets) at held ⌝ }
-    requires { ⌜ Tells «is_open» (held .octets) (length (now octets)) Line.Next ⌝ }
-    ensures { λ r. ⌜ Leads (carriedAt Line.Next t (now (store .entry)) (now (report .entry)) key f (now (octets .entry)) at «is_open» held) t at r (now (store .exit)) (now (report .exit)) ⌝ }
+fn go_on(j: Judged, store: &mut [u8], octets: &[u8]) -> Step
+    requires { ⌜ Ready j (now store) (now octets) × (j .held .octets + length (now octets) ≤ dataMost) ⌝ }
+    ensures { λ r. ⌜ r ≡ stepTo (longer (j .held) (j .key) (j .fields .heading) (length (now (octets .entry)))) (Decision.Saved (j .at)) 0 ⌝ }
+    ensures { λ _. ⌜ now (store .exit) ≡ saveAt (now (store .entry)) (j .at) (j .held .octets) (now (octets .entry)) ⌝ }
 {
-    let n = octets.len();
-    let saved = held.octets as usize;
-    save_at(store, at, saved, octets);
-    let heading = f.heading;
-    let remaining = heading.remaining;
-    let total = (saved + n) as u16;
-    let next = open_place(
-        key,
-        remaining,
-        held.instruction,
-        held.segments + 1,
-        total,
-        held.start,
-    );
-    taken(next, Decision::Saved(at), 0)
+    let saved = j.held.octets as usize;
+    save_at(store, j.at, saved, octets);
+    let total = (saved + octets.len()) as u16;
+    let segments = j.held.segments + 1;
+    let next = open_place(j, j.held.instruction, segments, total, j.held.start);
+    taken(next, Decision::Saved(j.at), 0)
 }
 
 // What a line does.
-pub fn carry_out(
-    line: Line,
-    t: Table,
-    store: &mut [u8],
-    report: &mut [u8],
-    key: Key,
-    f: Fields,
-    octets: &[u8],
-    at: usize,
-    is_open: bool,
-    held: Place,
-) -> Step
-    requires { ⌜ Ready t (now store) (now octets) at held ⌝ }
-    requires { ⌜ Tells «is_open» (held .octets) (length (now octets)) line ⌝ }
-    ensures { λ r. ⌜ Leads (carriedAt line t (now (store .entry)) (now (report .entry)) key f (now (octets .entry)) at «is_open» held) t at r (now (store .exit)) (now (report .exit)) ⌝ }
+pub fn carry_out(line: Line, j: Judged, store: &mut [u8], report: &mut [u8], octets: &[u8]) -> Step
+    requires { ⌜ Ready j (now store) (now octets) ⌝ }
+    requires { ⌜ Tells (j .found) (j .held .octets) (length (now octets)) line ⌝ }
+    ensures { λ r. ⌜ ((t : Table) → Holds t j → Leads (carriedAt line t (now (store .entry)) (now (report .entry)) j (now (octets .entry))) t (j .at) r (now (store .exit)) (now (report .exit))) ⌝ }
 {
     match line {
-        Line::Unsegmented => unsegmented(t, store, report, key, f, octets, at, is_open, held),
-        Line::Broken(cause) => broken(cause, t, store, report, key, f, octets, at, is_open, held),
-        Line::Restart => restart(t, store, report, key, f, octets, at, is_open, held),
-        Line::Start => start(t, store, report, key, f, octets, at, is_open, held),
-        Line::Final => finish(t, store, report, key, f, octets, at, is_open, held),
-        Line::Next => go_on(t, store, report, key, f, octets, at, is_open, held),
+        Line::Unsegmented => unsegmented(j, report, octets.len()),
+        Line::Broken(cause) => broken(cause, j, report, octets.len()),
+        Line::Restart => restart(j, store, report, octets),
+        Line::Start => start(j, store, octets),
+        Line::Final => finish(j, store, report, octets),
+        Line::Next => go_on(j, store, octets),
     }
 }
 

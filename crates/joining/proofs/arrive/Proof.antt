@@ -1,5 +1,5 @@
 use Prim.Native.Nat.{_≤_}
-use mathlib.Core.Path.{ap, _∙_}
+use mathlib.Core.Path.{refl, ap, _∙_}
 use denote.Ref.{now}
 use lib.ListN.{length, length-drop}
 use native.Mathlib.Omega.{arith}
@@ -43,9 +43,8 @@ carry-out-requires : tie.Need-carry-out-requires
 carry-out-requires c κs =
     let l = c .before .before .before .before .before .before in
     let i = l .before .before .before in
-    let s = i .before .before .before .before in
-    let f = rw (← s .pre .1 .1 .1) at (fit (s .args .t) (s .args .q .at) (s .pre .0 .0)) in (
-      record { enough = s .pre .0 .1; short = info-short i; inside = s .pre .1 .1 .0; there = s .pre .1 .1 .1; full = f .octets; counted = f .segments },
+    let s = i .before .before .before .before in (
+      record { enough = s .pre .0 .1; short = info-short i; inside = s .pre .1 .1 .0; fits = rw (← s .pre .1 .1 .1) at (fit (s .args .t) (s .args .q .at) (s .pre .0 .0)) },
       l .line-of .ensures .1,
     )
 
@@ -65,7 +64,7 @@ returns-2 c =
     leads-as
     (is-carried (s .args .t) (now (s .args .store)) (now (s .args .report)) (s .args .f) (now (i .tail .result)) (s .args .q) (s .args .held) (l .line-of .result) (s .pre .1 .0 .1) (s .pre .1 .1 .1) (l .line-of .ensures .0) (l .line-of .ensures .1) (rw (e .before .before .starts .ensures) at (e .if1 .left))
     ∙ ap (arrival (s .args .t) (now (s .args .store)) (now (s .args .report)) (s .args .q .key) (s .args .f)) (i .tail .ensures))
-    (k .carry-out .ensures)
+    (k .carry-out .ensures (s .args .t) (refl, s .pre .1 .1 .1))
 
 pub arrive-spec : {M : Type 1} → statement M
 arrive-spec =

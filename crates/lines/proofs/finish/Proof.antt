@@ -1,9 +1,5 @@
-use mathlib.Core.Path.{ap}
-use lib.ListN.{set}
-use Rattle.lines.proofs.Reported.{one-record}
-use Rattle.lines.proofs.Stepping.{step-answer}
-use Rattle.lines.specs.Carried.{carriedAt}
-use Rattle.rules.specs.Receiving.{effectOf}
+use native.Mathlib.Omega.{arith}
+use Rattle.lines.proofs.Stepping.{puts}
 use borrow.Author.Needs.{needs}
 use Rattle.lines.proofs.finish.Statement.{statement}
 use Rattle.lines.proofs.finish.Tie as tie
@@ -17,17 +13,14 @@ save-at-requires c κs = search needs
 add-total : tie.Need-add-total
 add-total c = search needs
 
-add-record-with : tie.Need-add-record-with
-add-record-with c = search needs
+add-segments : tie.Need-add-segments
+add-segments c = omega (arith, c .before .before .before .before .before .before .before .before .before .pre .0 .fits .segments)
 
-cast-record-with : tie.Need-cast-record-with
-cast-record-with c = search needs
+cast-tell : tie.Need-cast-tell
+cast-tell c = search needs
 
-record-with-requires : tie.Need-record-with-requires
-record-with-requires c κs = search needs
-
-put-record-requires : tie.Need-put-record-requires
-put-record-requires c κs = search needs
+tell-requires : tie.Need-tell-requires
+tell-requires c κs = search needs
 
 free-place-requires : tie.Need-free-place-requires
 free-place-requires c κs = search needs
@@ -42,16 +35,7 @@ same-length-2 : tie.Need-same-length-2
 same-length-2 c = search needs
 
 returns : tie.Need-returns
-unfolding carriedAt effectOf
-returns c =
-    let s = c .before .before .before .before .before .before .before .before .before .before .before .before .before .before .before .before in
-    rw (s .pre .1 .0) (
-    record {
-      answered = step-answer (s .args .t) (s .args .at) _ _ _ _ _ (c .taken .ensures) (ap (set (s .args .t .places) (s .args .at)) (c .before .free-place .ensures));
-      stored = c .before .before .before .before .before .before .before .before .before .before .save-at .ensures;
-      reported = one-record _ _ _ _ (c .before .before .before .before .put-record .ensures .0) (c .before .before .before .before .before .before .record-with .ensures);
-    }
-    )
+returns c = (puts (c .taken .ensures) (c .before .free-place .ensures), (c .before .before .before .before .before .before .before .before .before .save-at .ensures, c .before .before .before .before .tell .ensures))
 
 pub finish-spec : {M : Type 1} → statement M
 finish-spec =
@@ -60,10 +44,9 @@ finish-spec =
     cast-saved
     save-at-requires
     add-total
-    add-record-with
-    cast-record-with
-    record-with-requires
-    put-record-requires
+    add-segments
+    cast-tell
+    tell-requires
     free-place-requires
     taken-requires
     same-length

@@ -1,9 +1,4 @@
-use mathlib.Core.Path.{ap}
-use lib.ListN.{set}
-use Rattle.lines.proofs.Reported.{no-record}
-use Rattle.lines.proofs.Stepping.{step-answer}
-use Rattle.lines.specs.Carried.{carriedAt}
-use Rattle.rules.specs.Receiving.{effectOf}
+use Rattle.lines.proofs.Stepping.{puts}
 use borrow.Author.Needs.{needs}
 use Rattle.lines.proofs.go_on.Statement.{statement}
 use Rattle.lines.proofs.go_on.Tie as tie
@@ -20,8 +15,8 @@ add-total c = search needs
 cast-total : tie.Need-cast-total
 cast-total c = search needs
 
-add-open-place : tie.Need-add-open-place
-add-open-place c = search needs
+add-segments : tie.Need-add-segments
+add-segments c = search needs
 
 open-place-requires : tie.Need-open-place-requires
 open-place-requires c κs = search needs
@@ -33,16 +28,7 @@ same-length : tie.Need-same-length
 same-length c = search needs
 
 returns : tie.Need-returns
-unfolding carriedAt effectOf
-returns c =
-    let s = c .before .before .before .before .before .before .before .before .before .before .before .before .before in
-    rw (s .pre .1 .0) (
-    record {
-      answered = step-answer (s .args .t) (s .args .at) _ _ _ _ _ (c .taken .ensures) (ap (set (s .args .t .places) (s .args .at)) (c .before .open-place .ensures));
-      stored = c .before .before .before .before .before .before .before .save-at .ensures;
-      reported = no-record _;
-    }
-    )
+returns c = (puts (c .taken .ensures) (c .before .open-place .ensures), c .before .before .before .before .before .save-at .ensures)
 
 pub go-on-spec : {M : Type 1} → statement M
 go-on-spec =
@@ -52,7 +38,7 @@ go-on-spec =
     save-at-requires
     add-total
     cast-total
-    add-open-place
+    add-segments
     open-place-requires
     taken-requires
     same-length

@@ -1,9 +1,4 @@
-use mathlib.Core.Path.{ap}
-use lib.ListN.{set}
-use Rattle.lines.proofs.Reported.{no-record}
-use Rattle.lines.proofs.Stepping.{step-answer}
-use Rattle.lines.specs.Carried.{carriedAt}
-use Rattle.rules.specs.Receiving.{effectOf}
+use Rattle.lines.proofs.Stepping.{puts}
 use borrow.Author.Needs.{needs}
 use Rattle.lines.proofs.start.Statement.{statement}
 use Rattle.lines.proofs.start.Tie as tie
@@ -21,14 +16,7 @@ same-length : tie.Need-same-length
 same-length c = search needs
 
 returns : tie.Need-returns
-unfolding carriedAt effectOf
-returns c =
-    let s = c .before .before .before .before .before .before .before .before .before in
-    record {
-      answered = step-answer (s .args .t) (s .args .at) _ _ _ _ _ (c .taken .ensures) (ap (set (s .args .t .places) (s .args .at)) (c .before .begun-place .ensures));
-      stored = c .before .before .before .before .save-at .ensures;
-      reported = no-record _;
-    }
+returns c = (puts (c .taken .ensures) (c .before .begun-place .ensures), c .before .before .before .before .save-at .ensures)
 
 pub start-spec : {M : Type 1} → statement M
 start-spec =
