@@ -13,8 +13,8 @@ use Rattle.rules.specs.Numbers.{timerInRange}
 use Rattle.rules.specs.Registry.{isCut, listsRegistry}
 use Rattle.rules.specs.Opening.{opening}
 use Rattle.rules.proofs.Registry.{whole-is, lists-is, opening-by}
-use Rattle.trace.specs.Turns.{registryOf, keeping}
-use Rattle.trace.specs.declared.Replay.{Replay}
+use Rattle.events.specs.Events.{registryOf, keeping}
+use Rattle.events.specs.declared.Replay.{Replay}
 
 -- over eight records are refused
 and-false : (a : Bool) → (a && false) ≡ false

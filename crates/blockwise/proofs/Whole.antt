@@ -12,11 +12,12 @@ use Rattle.rules.specs.General.{if_then_else_}
 use Rattle.rules.specs.Calls.{Outcome, step}
 use Rattle.rules.specs.Trace.{Event, Opening, Segment, Clock, Release, Item, Registers, Happens, isKnown, bodyLength, itemOf, itemsOf, callOf, replayLine, stopLine, happened, registered, printed}
 use Rattle.rules.specs.Trace as trace
-use Rattle.trace.specs.Turns.{Turned, stepOf, waiting, stopping, keeping, registering, happening, atItem, turned, joined, lineMost, runs, endLine}
+use Rattle.events.specs.Events.{stepOf, keeping}
+use Rattle.events.specs.declared.Replay.{Replay}
+use Rattle.trace.specs.Turns.{Turned, waiting, stopping, registering, happening, atItem, turned, joined, lineMost, runs, endLine}
 use Rattle.blockwise.specs.Whole.{replayFrom, Shows, Follows, ByBlocks, AtEnd, AtBeginning, behind, session, allOf, OfAll}
-use Rattle.trace.specs.declared.Replay.{Replay}
+use Rattle.items.proofs.Items.{item-by, items-next}
 use Rattle.trace.proofs.Turning.{turned-none}
-use Rattle.trace.proofs.Items.{item-by, items-next}
 use Rattle.trace.proofs.Running.{isOver, or-false, runs-over, runs-more}
 use Rattle.blockwise.proofs.Keeping.{opening-nine, Kept, kept-more}
 

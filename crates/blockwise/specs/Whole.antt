@@ -13,8 +13,9 @@ use Rattle.rules.specs.Opening.{unopened}
 use Rattle.rules.specs.Sweep.{reportLeast}
 use Rattle.rules.specs.Trace.{itemsOf, printed}
 use Rattle.rules.specs.Trace as trace
-use Rattle.trace.specs.Turns.{registryOf, Turned, turned, lineMost, runs, endLine}
-use Rattle.trace.specs.declared.Replay.{Replay}
+use Rattle.events.specs.Events.{registryOf}
+use Rattle.events.specs.declared.Replay.{Replay}
+use Rattle.trace.specs.Turns.{Turned, turned, lineMost, runs, endLine}
 
 -- what the rule prints of octets, from a replay on
 abbrev pub replayFrom : trace.Replay → List ℕ → List ℕ

@@ -1,8 +1,8 @@
 // The replay program: a trace on standard input, its lines on standard output. What is read and what is printed of it is trace's; this reads, writes and keeps count.
+use events::Replay;
 use libc::STDIN_FILENO;
 use libc::STDOUT_FILENO;
 use trace::Progress;
-use trace::Replay;
 ghost use mathlib.Core.Path.{_≡_};
 ghost use Prim.Native.Nat.{_-_, _≤_};
 ghost use lib.ListN.{length, take, drop};

@@ -1,7 +1,5 @@
-pub mod Reading
 pub mod Registering
 pub mod Happening
 pub mod Fitting
 pub mod Turning
 pub mod Running
-pub mod Items

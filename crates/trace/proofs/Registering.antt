@@ -1,29 +1,17 @@
 -- A registry record stops the replay or is kept.
-use Prim.Native.Nat.{ℕ, _+_}
-use mathlib.Core.Path.{_≡_, refl, sym, ap, subst, _∙_}
+use Prim.Native.Nat.{ℕ}
+use mathlib.Core.Path.{_≡_, refl, sym, subst}
 use mathlib.Core.Bool.{Bool, true, false}
-use mathlib.Core.List.{List, [], _∷_}
-use native.Mathlib.Numerals.{add-one}
-use lib.Dec.{ltb}
-use lib.ListN.{set}
+use mathlib.Core.List.{List, []}
 use Rattle.octets.specs.Splice.{splice}
 use Rattle.octets.proofs.Splice.{splice-nil}
 use Rattle.rules.specs.General.{if_then_else_}
 use Rattle.rules.specs.Trace.{stopLine}
-use Rattle.trace.specs.Turns.{OfTurn, Registered, stopping, keeping}
-use Rattle.trace.specs.declared.Replay.{Replay}
+use Rattle.events.specs.Events.{keeping}
+use Rattle.events.specs.declared.Replay.{Replay}
+use Rattle.trace.specs.Turns.{OfTurn, Registered, stopping}
 use Rattle.trace.specs.declared.Progress.{Progress}
 use Rattle.trace.proofs.Turning.{as-stopping}
-
-splice-cons : (xs : List ℕ) (at y : ℕ) (ys : List ℕ) → splice (set xs at y) (at + 1) ys ≡ splice xs at (y ∷ ys)
-unfolding splice
-splice-cons xs at y ys = rw add-one
-
-pub keeps : (held : Replay) (kind : ℕ) (body registry : List ℕ) → ltb 24 (held .length) ≡ false
-    → registry ≡ splice (set (held .registry) (held .length) kind) (held .length + 1) body
-    → record { registry = registry; length = held .length + 3; table = held .table; begun = held .begun } ≡ keeping held kind body
-keeps held kind body registry e r =
-    simp e (ap (λ (l : List ℕ). record { registry = l; length = held .length + 3; table = held .table; begun = held .begun }) (r ∙ splice-cons (held .registry) (held .length) kind body))
 
 module _ (held : Replay) (kind : ℕ) (body out : List ℕ) where
   pub registry-stops : held .begun ≡ true → (answer : Progress) → answer ≡ record { replay = held; used = 0; written = 5; ended = true }

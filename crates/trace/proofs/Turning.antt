@@ -11,11 +11,11 @@ use Rattle.octets.specs.Splice.{splice, Wrote}
 use Rattle.octets.proofs.Splice.{splice-nil}
 use Rattle.rules.specs.General.{if_then_else_}
 use Rattle.rules.specs.Trace.{isKnown, bodyLength, itemOf, stopLine}
-use Rattle.trace.specs.Reading.{bodyOf}
+use Rattle.items.specs.Reading.{bodyOf}
+use Rattle.items.specs.declared.Body.the-variants.{Of, Unknown}
+use Rattle.events.specs.declared.Replay.{Replay}
 use Rattle.trace.specs.Turns.{OfTurn, waiting, stopping, atItem, turned}
-use Rattle.trace.specs.declared.Replay.{Replay}
 use Rattle.trace.specs.declared.Progress.{Progress}
-use Rattle.trace.specs.declared.Body.the-variants.{Of, Unknown}
 
 -- a kind that has a body is known, and has that body; one that has none is not
 known-if : (kind n : ℕ) (b : Bool) → isKnown kind ≡ b → (if b then Of (bodyLength kind) else Unknown) ≡ Of n → (isKnown kind ≡ true) × (n ≡ bodyLength kind)

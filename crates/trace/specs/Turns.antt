@@ -5,52 +5,13 @@ use mathlib.Core.Bool.{Bool, true, false, not, _||_}
 use mathlib.Core.List.{List, [], _∷_, _++_}
 use lib.Dec.{eqb, ltb}
 use lib.ListN.{length, take, drop}
-use Rattle.octets.specs.Splice.{splice, Wrote}
+use Rattle.octets.specs.Splice.{Wrote}
 use Rattle.rules.specs.General.{if_then_else_}
-use Rattle.rules.specs.Receiving.{segment}
-use Rattle.rules.specs.Calls.{Outcome, step}
-use Rattle.rules.specs.Trace.{Event, Item, Registers, Happens, Stops, isKnown, bodyLength, itemOf, callOf, isOpening, reportAfter, replayLine, stopLine}
-use Rattle.rules.specs.Trace as trace
-use Rattle.rules.specs.declared.Table.{Table}
-use Rattle.rules.specs.declared.Opened.{Opened}
-use Rattle.rules.specs.declared.Swept.{Swept}
-use Rattle.trace.specs.declared.Replay.{Replay}
-use Rattle.trace.specs.declared.Answered.{Answered}
+use Rattle.rules.specs.Calls.{Outcome}
+use Rattle.rules.specs.Trace.{Event, Item, Registers, Happens, Stops, isKnown, bodyLength, itemOf, isOpening, reportAfter, replayLine, stopLine}
+use Rattle.events.specs.Events.{replayOf, stepOf, keeping}
+use Rattle.events.specs.declared.Replay.{Replay}
 use Rattle.trace.specs.declared.Progress.{Progress}
-
--- the registry as kept
-abbrev pub registryOf : Replay → List ℕ
-registryOf held = take (held .length) (held .registry)
-
--- the rule's replay that the code holds, with the store and the report area
-abbrev pub replayOf : Replay → List ℕ → List ℕ → trace.Replay
-replayOf held store report =
-    record { registry = registryOf held; begun = held .begun; state = record { table = held .table; store = store }; report = report }
-
-abbrev pub answerOpened : Opened → Answered
-answerOpened o = record { table = o .table; refusal = o .refusal; records = 0 }
-
-abbrev pub answerSwept : Swept → Answered
-answerSwept o = record { table = o .table; refusal = o .refusal; records = o .records }
-
--- a segment's answer, decision aside, and the areas after it
-pub record Arrived (t : Table) (store report : List ℕ) (association : ℕ) (s : List ℕ) (answer : Answered) (store′ report′ : List ℕ) : Type 0 where
-  pub table : answer .table ≡ segment t store report association s .answer .table
-  pub refusal : answer .refusal ≡ segment t store report association s .answer .refusal
-  pub records : answer .records ≡ segment t store report association s .answer .records
-  pub stored : store′ ≡ segment t store report association s .store
-  pub reported : report′ ≡ segment t store report association s .report
-
--- what an event does is the rules' own step
-abbrev pub stepOf : Replay → List ℕ → List ℕ → Event → Outcome
-stepOf held store report e = let r : trace.Replay = replayOf held store report in step (r .state) (callOf r e)
-
-pub record OfEvent (held : Replay) (store report : List ℕ) (e : Event) (answer : Answered) (store′ report′ : List ℕ) : Type 0 where
-  pub table : answer .table ≡ stepOf held store report e .state .table
-  pub refusal : answer .refusal ≡ stepOf held store report e .answer .refusal
-  pub records : answer .records ≡ stepOf held store report e .answer .records
-  pub stored : store′ ≡ stepOf held store report e .state .store
-  pub reported : report′ ≡ reportAfter (replayOf held store report) e (stepOf held store report e .answer)
 
 -- what is done with the front of an input: what is printed, what is held then, how many octets are used, whether the replay has ended
 pub record Turned : Type 0 where
@@ -75,12 +36,6 @@ waiting held store report = record { lines = []; held = held; store = store; rep
 
 abbrev pub stopping : Replay → List ℕ → List ℕ → Turned
 stopping held store report = record { lines = stopLine; held = held; store = store; report = report; used = 0; ended = true }
-
--- a registry record is kept, unless nine are: with nine, an open is refused as with more
-abbrev pub keeping : Replay → ℕ → List ℕ → Replay
-keeping held kind body =
-    if ltb 24 (held .length) then held else
-    record { registry = splice (held .registry) (held .length) (kind ∷ body); length = held .length + 3; table = held .table; begun = held .begun }
 
 abbrev pub registering : Replay → List ℕ → List ℕ → ℕ → List ℕ → Turned
 registering held store report kind body =

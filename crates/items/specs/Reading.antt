@@ -5,12 +5,12 @@ use lib.ListN.{take, drop}
 use Rattle.rules.specs.General.{if_then_else_}
 use Rattle.rules.specs.Trace.{Item, Registers, Happens, Opening, Clock, Release, isKnown, bodyLength}
 use Rattle.rules.specs.Trace as trace
-use Rattle.trace.specs.declared.Event as code
-use Rattle.trace.specs.declared.Event.the-variants as event
-use Rattle.trace.specs.declared.Item as read
-use Rattle.trace.specs.declared.Item.the-variants as item
-use Rattle.trace.specs.declared.Body.{Body}
-use Rattle.trace.specs.declared.Body.the-variants.{Of, Unknown}
+use Rattle.items.specs.declared.Event as code
+use Rattle.items.specs.declared.Event.the-variants as event
+use Rattle.items.specs.declared.Item as read
+use Rattle.items.specs.declared.Item.the-variants as item
+use Rattle.items.specs.declared.Body.{Body}
+use Rattle.items.specs.declared.Body.the-variants.{Of, Unknown}
 
 abbrev pub bodyOf : ℕ → Body
 bodyOf kind = if isKnown kind then Of (bodyLength kind) else Unknown

@@ -1,7 +1,7 @@
 -- The kinds 1 and 2 are a range to the compiler, so they come as a test.
-use Rattle.trace.proofs.Reading.{body-registry, body-unknown}
-use Rattle.trace.proofs.body_length.Statement.{statement}
-use Rattle.trace.proofs.body_length.Tie as tie
+use Rattle.items.proofs.Reading.{body-registry, body-unknown}
+use Rattle.items.proofs.body_length.Statement.{statement}
+use Rattle.items.proofs.body_length.Tie as tie
 
 returns : tie.Need-returns
 returns c = rw (c .match .keys2)

@@ -1,9 +1,9 @@
 use mathlib.Core.Path.{sym, ap, _∙_}
 use Rattle.octets.specs.Number.{number}
-use Rattle.trace.proofs.Reading.{take-two}
+use Rattle.items.proofs.Reading.{take-two}
 use borrow.Author.Needs.{needs}
-use Rattle.trace.proofs.pair.Statement.{statement}
-use Rattle.trace.proofs.pair.Tie as tie
+use Rattle.items.proofs.pair.Statement.{statement}
+use Rattle.items.proofs.pair.Tie as tie
 
 shared-slice-read-number2 : tie.Need-shared-slice-read-number2
 shared-slice-read-number2 c = search needs

@@ -2,10 +2,10 @@ use Prim.Native.Nat.{ℕ}
 use mathlib.Core.Path.{ap, _∙_}
 use mathlib.Core.List.{List}
 use Rattle.rules.specs.Opening.{opening}
-use Rattle.trace.specs.Turns.{answerOpened}
+use Rattle.events.specs.Events.{answerOpened}
 use borrow.Author.Needs.{needs}
-use Rattle.trace.proofs.open.Statement.{statement}
-use Rattle.trace.proofs.open.Tie as tie
+use Rattle.events.proofs.open.Statement.{statement}
+use Rattle.events.proofs.open.Tie as tie
 
 slice-aggregate-stretch : tie.Need-slice-aggregate-stretch
 slice-aggregate-stretch c = search needs

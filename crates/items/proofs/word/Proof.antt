@@ -1,9 +1,9 @@
 use mathlib.Core.Path.{sym, ap, _∙_}
 use Rattle.octets.specs.Number.{number}
-use Rattle.trace.proofs.Reading.{take-four}
+use Rattle.items.proofs.Reading.{take-four}
 use borrow.Author.Needs.{needs}
-use Rattle.trace.proofs.word.Statement.{statement}
-use Rattle.trace.proofs.word.Tie as tie
+use Rattle.items.proofs.word.Statement.{statement}
+use Rattle.items.proofs.word.Tie as tie
 
 shared-slice-read-number4 : tie.Need-shared-slice-read-number4
 shared-slice-read-number4 c = search needs

@@ -1,8 +1,8 @@
 use borrow.Author.Tests.{lt-ltb, le-ltb}
-use Rattle.trace.proofs.Registering.{keeps}
+use Rattle.events.proofs.Keeping.{keeps}
 use borrow.Author.Needs.{needs}
-use Rattle.trace.proofs.kept.Statement.{statement}
-use Rattle.trace.proofs.kept.Tie as tie
+use Rattle.events.proofs.kept.Statement.{statement}
+use Rattle.events.proofs.kept.Tie as tie
 
 returns : tie.Need-returns
 returns c = simp (lt-ltb _ _ (c .if1 .taken))

@@ -1,7 +1,7 @@
-use Rattle.trace.proofs.Happening.{of-opening, of-segment, of-clock, of-release}
+use Rattle.events.proofs.Calling.{of-opening, of-segment, of-clock, of-release}
 use borrow.Author.Needs.{needs}
-use Rattle.trace.proofs.happen.Statement.{statement}
-use Rattle.trace.proofs.happen.Tie as tie
+use Rattle.events.proofs.happen.Statement.{statement}
+use Rattle.events.proofs.happen.Tie as tie
 
 enum-known-e : tie.Need-enum-known-e
 enum-known-e c = search needs

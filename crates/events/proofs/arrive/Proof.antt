@@ -1,7 +1,7 @@
-use Rattle.trace.proofs.Happening.{as-arrived}
+use Rattle.events.proofs.Calling.{as-arrived}
 use borrow.Author.Needs.{needs}
-use Rattle.trace.proofs.arrive.Statement.{statement}
-use Rattle.trace.proofs.arrive.Tie as tie
+use Rattle.events.proofs.arrive.Statement.{statement}
+use Rattle.events.proofs.arrive.Tie as tie
 
 stretch-requires : tie.Need-stretch-requires
 stretch-requires c κs = search needs

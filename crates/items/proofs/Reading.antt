@@ -11,10 +11,10 @@ use Rattle.rules.specs.General.{if_then_else_}
 use Rattle.rules.specs.Trace.{Registers, bodyLength, itemOf}
 use Rattle.rules.specs.Trace as trace
 use Rattle.rules.proofs.Lists.{left}
-use Rattle.trace.specs.Reading.{bodyOf, itemMeant}
-use Rattle.trace.specs.declared.Item.{Item}
-use Rattle.trace.specs.declared.Body.the-variants.{Of, Unknown}
-use Rattle.trace.proofs.Items.{item-by}
+use Rattle.items.specs.Reading.{bodyOf, itemMeant}
+use Rattle.items.specs.declared.Item.{Item}
+use Rattle.items.specs.declared.Body.the-variants.{Of, Unknown}
+use Rattle.items.proofs.Items.{item-by}
 
 pub body-registry : (kind : ℕ) → (kind ≡ 0 → ⊥) → kind < 3 → Of 2 ≡ bodyOf kind
 body-registry zero n l = absurd (n refl)

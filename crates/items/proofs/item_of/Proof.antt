@@ -2,8 +2,8 @@ use native.Mathlib.Omega.{arith}
 use borrow.Author.Tests.{ne-eqb}
 use lib.ListN.{drop, length-drop}
 use lib.Seq.{take-all}
-use Rattle.trace.proofs.item_of.Statement.{statement}
-use Rattle.trace.proofs.item_of.Tie as tie
+use Rattle.items.proofs.item_of.Statement.{statement}
+use Rattle.items.proofs.item_of.Tie as tie
 
 word-requires : tie.Need-word-requires
 word-requires c κs = omega (arith, rw (c .match .keys1) at (c .before .before .pre))
