@@ -6,10 +6,10 @@ use Rattle.rules.specs.Receiving.{segment}
 use Rattle.rules.specs.Delivery.{delivery}
 use Rattle.rules.specs.declared.Table.{Table}
 use Rattle.rules.specs.declared.Received.{Received}
-use Rattle.host.specs.Crossing.{outcomeOf, decisionOf, stretchOf, taken}
-use Rattle.host.specs.declared.Outcome.{Outcome}
+use Rattle.crossing.specs.Crossing.{outcomeOf, decisionOf, stretchOf, taken}
+use Rattle.crossing.specs.declared.Outcome.{Outcome}
 use Rattle.host.specs.declared.Arrival.{Arrival}
-use Rattle.host.specs.declared.Stretch.{Stretch}
+use Rattle.crossing.specs.declared.Stretch.{Stretch}
 
 -- an answer as it crosses
 abbrev pub crossing : Received → Arrival

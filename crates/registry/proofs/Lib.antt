@@ -1,2 +1,1 @@
-pub mod Along
 pub mod Contexts

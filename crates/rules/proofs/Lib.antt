@@ -5,6 +5,8 @@ pub mod Records
 pub mod Places
 pub mod Numbers
 pub mod Lists
+pub mod Along
+pub mod Nought
 pub mod Cutting
 pub mod ReadBack
 pub mod Registry

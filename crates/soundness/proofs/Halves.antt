@@ -13,7 +13,8 @@ use Rattle.rules.specs.Soundness.{openSound, freeSound, placeSound, placesApart
 use Rattle.rules.specs.declared.Entry.{Entry}
 use Rattle.rules.specs.declared.Place.{Place}
 use Rattle.rules.specs.declared.Table.{Table}
-use Rattle.soundness.specs.Halves.{soundIfOpen, soundIfIdle}
+use Rattle.idle.specs.Idle.{soundIfIdle}
+use Rattle.live.specs.Open.{soundIfOpen}
 
 crossed : (a b c d : Bool) → ((a && b) && (c && d)) ≡ ((a && c) && (b && d))
 crossed false b c d = refl

@@ -1,4 +1,2 @@
 pub mod Digest
 pub mod Halves
-pub mod Weights
-pub mod Zeros

@@ -1,3 +1,1 @@
 pub mod Digest
-pub mod Halves
-pub mod Weights

@@ -1,8 +1,8 @@
 use denote.Ref.{now}
-use Rattle.host.specs.Crossing.{decisionOf}
+use Rattle.crossing.specs.Crossing.{decisionOf}
 use mathlib.Core.Path.{_∙_}
 use borrow.Author.Needs.{needs}
-use Rattle.host.proofs.Crossing.{taken-delivery, delivery-within}
+use Rattle.crossing.proofs.Crossing.{taken-delivery, delivery-within}
 use Rattle.host.proofs.egrynnol_delivery.Statement.{statement}
 use Rattle.host.proofs.egrynnol_delivery.Tie as tie
 

@@ -7,7 +7,7 @@ use Rattle.rules.specs.Registry.{isUsable}
 use Rattle.rules.specs.Opening.{noEntry}
 use native.Mathlib.Omega.{arith}
 use borrow.Author.Needs.{needs}
-use Rattle.registry.proofs.Along.{every-so-far, every-over}
+use Rattle.rules.proofs.Along.{every-so-far, every-over}
 use Rattle.registry.proofs.all_usable.Statement.{statement}
 use Rattle.registry.proofs.all_usable.Tie as tie
 

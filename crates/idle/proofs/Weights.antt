@@ -1,0 +1,103 @@
+-- Sums of several numbers: 0 exactly where each of them is.
+use Prim.Native.Nat.{ℕ, _+_, _*_, _<_, _≤_}
+use mathlib.Core.Path.{_≡_, refl, sym, _∙_}
+use mathlib.Core.Bool.{Bool, true, false, _&&_, and-true, and-false, and-assoc}
+use mathlib.Core.List.{List}
+use native.Mathlib.Nat.{mul-pos, mul-zero}
+use native.Mathlib.Omega.{arith}
+use borrow.Author.Tests.{eqb-true, eqb-false, eq-eqb, ne-eqb}
+use lib.Dec.{eqb}
+use lib.ListN.{length, drop, getD, drop-of-length-le}
+use Rattle.rules.specs.General.{every}
+use Rattle.rules.specs.Places.{isFree}
+use Rattle.rules.specs.Soundness.{isZero, freeSound}
+use Rattle.rules.specs.declared.Place.{Place}
+use Rattle.rules.proofs.Lists.{left}
+use Rattle.rules.proofs.Nought.{sum-nought}
+
+-- a number that is taken several times
+times-nought : (k x : ℕ) → 0 < k → eqb (k * x) 0 ≡ eqb x 0
+times-nought k x h = go (eqb x 0) refl
+  where
+    go : (b : Bool) → eqb x 0 ≡ b → eqb (k * x) 0 ≡ b
+    go true e = eq-eqb (k * x) 0 (rw (eqb-true x 0 e) (mul-zero k))
+    go false e =
+        let n = eqb-false x 0 e in
+        let more : 0 < k * x = mul-pos h (omega (arith, n)) in
+        ne-eqb (k * x) 0 (λ z. omega arith)
+
+pub word-nought : (a b c d : ℕ) → eqb (a + 256 * b + 65536 * c + 16777216 * d) 0 ≡ (isZero a && isZero b && isZero c && isZero d)
+word-nought a b c d =
+    simp (sum-nought, times-nought 256 b (omega arith), times-nought 65536 c (omega arith), times-nought 16777216 d (omega arith))
+
+module _ (a : List ℕ) where
+  abbrev pub fourZero : ℕ → Bool
+  fourZero i = isZero (getD a i 0) && isZero (getD a (i + 1) 0) && isZero (getD a (i + 2) 0) && isZero (getD a (i + 3) 0)
+
+  next-four : (i : ℕ) → i + 4 ≤ length a → every isZero (drop i a) ≡ (fourZero i && every isZero (drop (i + 4) a))
+  next-four i h =
+      let two : i + 1 + 1 ≡ i + 2 = omega arith in
+      let three : i + 2 + 1 ≡ i + 3 = omega arith in
+      let four : i + 3 + 1 ≡ i + 4 = omega arith in
+      rw (left a 0 i (omega arith), left a 0 (i + 1) (omega arith), two, left a 0 (i + 2) (omega arith), three, left a 0 (i + 3) (omega arith), four)
+      (simp and-assoc)
+
+  pub twenty-nought : length a ≡ 20 → every isZero a ≡ (fourZero 0 && fourZero 4 && fourZero 8 && fourZero 12 && fourZero 16)
+  twenty-nought h =
+      next-four 0 (omega arith)
+      ∙ rw (
+        next-four 4 (omega arith),
+        next-four 8 (omega arith),
+        next-four 12 (omega arith),
+        next-four 16 (omega arith),
+        drop-of-length-le a {i = 20} (omega arith),
+      )
+      (simp (and-true, and-assoc))
+
+-- the numbers of a place, in the order of the sum and in that of the rules
+in-order : (address association context reference length octets start mark instruction remaining segments : Bool)
+    → (address && (association && context) && (reference && length && octets) && start && (mark && instruction && remaining && segments))
+    ≡ (mark && (association && context && reference && length && octets && start && instruction && remaining && segments && address))
+in-order false a c r l o s m i n k = sym (rw and-false (and-false m))
+in-order true false c r l o s m i n k = sym (and-false m)
+in-order true true false r l o s m i n k = sym (and-false m)
+in-order true true true false l o s m i n k = sym (and-false m)
+in-order true true true true false o s m i n k = sym (and-false m)
+in-order true true true true true false s m i n k = sym (and-false m)
+in-order true true true true true true false m i n k = sym (and-false m)
+in-order true true true true true true true false i n k = refl
+in-order true true true true true true true true i n k = sym (and-true (i && n && k))
+
+-- what a place weighs, with a weight a for its address and w for its word
+pub weight-nought : (p : Place) (a w : ℕ) → eqb a 0 ≡ every isZero (p .key .address)
+    → eqb w 0 ≡ (isFree p && isZero (p .instruction) && isZero (p .remaining .0) && isZero (p .segments))
+    → eqb
+    (a
+    + (p .key .association + 65536 * p .key .context .0)
+    + (p .key .reference .0 + 256 * p .key .length + 65536 * p .octets)
+    + p .start
+    + w)
+    0
+    ≡ (isFree p && freeSound p)
+unfolding freeSound
+weight-nought p a w ea ew =
+    simp (
+      sum-nought,
+      times-nought 65536 (p .key .context .0) (omega arith),
+      times-nought 256 (p .key .length) (omega arith),
+      times-nought 65536 (p .octets) (omega arith),
+      ea,
+      ew,
+    )
+    (in-order
+    (every isZero (p .key .address))
+    (isZero (p .key .association))
+    (isZero (p .key .context .0))
+    (isZero (p .key .reference .0))
+    (isZero (p .key .length))
+    (isZero (p .octets))
+    (isZero (p .start))
+    (isFree p)
+    (isZero (p .instruction))
+    (isZero (p .remaining .0))
+    (isZero (p .segments)))
