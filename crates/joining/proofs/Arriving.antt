@@ -32,10 +32,11 @@ use Rattle.rules.specs.declared.Found.{Found}
 use Rattle.rules.specs.declared.Found.the-variants.{At}
 use Rattle.rules.specs.declared.Line.{Line}
 use Rattle.rules.specs.declared.Line.the-variants.{Unsegmented, Broken, Restart, Start, Final, Next}
-use Rattle.lines.specs.Carried.{foundIf, heldIf, carriedAt, answerOf, Leads, Tells, Fit}
-use Rattle.lines.proofs.Stepping.{kept}
-use Rattle.lines.specs.declared.Step.{Step}
-use Rattle.lines.specs.declared.Judged.{Judged}
+use Rattle.lines.specs.Telling.{Tells}
+use Rattle.carrying.specs.Carried.{foundIf, heldIf, carriedAt, answerOf, Leads, Fit}
+use Rattle.carrying.proofs.Stepping.{kept}
+use Rattle.carrying.specs.declared.Step.{Step}
+use Rattle.carrying.specs.declared.Judged.{Judged}
 use Rattle.joining.specs.Arrival.{refusedAs, refusedWith, Seeks, arrival}
 use Rattle.joining.specs.declared.Sought.{Sought}
 

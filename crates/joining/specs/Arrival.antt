@@ -10,7 +10,7 @@ use Rattle.rules.specs.Places.{placeOf, lowestFree, isAt, placeAt}
 use Rattle.rules.specs.Receiving.{lineAt, isStart, effectOf, Reception, receptionOf}
 use Rattle.table.specs.Seeking.{Points}
 use Rattle.table.specs.declared.Search.{Search}
-use Rattle.lines.specs.declared.Step.{Step}
+use Rattle.carrying.specs.declared.Step.{Step}
 use Rattle.joining.specs.declared.Sought.{Sought}
 use Rattle.rules.specs.declared.Key.{Key}
 use Rattle.rules.specs.declared.Place.{Place}

@@ -1,11 +1,10 @@
-// Segments joined: the segment call, and the delivery of what was joined.
-use lines::Judged;
-use lines::Step;
+// Segments joined: the segment call.
+use carrying::Judged;
+use carrying::Step;
 use parameter::Reading;
 use rules::Decision;
 use rules::Fields;
 use rules::Key;
-use rules::Part;
 use rules::Place;
 use rules::Received;
 use rules::Table;
@@ -17,11 +16,10 @@ ghost use Rattle.rules.specs.Numbers.{storeLeast, addressMost, placeCount};
 ghost use Rattle.rules.specs.Places.{noPlace, placeOf, lowestFree};
 ghost use Rattle.rules.specs.Receiving.{keyOf, informationOf, segment};
 ghost use Rattle.rules.specs.Soundness.{sound};
-ghost use Rattle.rules.specs.Delivery.{partOf, partOfPlace, delivery};
 ghost use Rattle.rules.specs.Promises.{OfSegment};
 ghost use Rattle.parameter.specs.Reading.{reading};
 ghost use Rattle.table.specs.Seeking.{Points};
-ghost use Rattle.lines.specs.Carried.{Leads};
+ghost use Rattle.carrying.specs.Carried.{Leads};
 ghost use Rattle.joining.specs.Arrival.{refusedWith, searchOf, Seeks, arrival};
 
 // A parameter's reading, its key, and the place that it is about (see Search).
@@ -151,7 +149,7 @@ fn arrive(
         at: q.at,
         found: q.found,
     };
-    lines::carry_out(line, j, store, report, octets)
+    carrying::carry_out(line, j, store, report, octets)
 }
 
 // What becomes of a segment at a table, whether sound or not.
@@ -210,45 +208,5 @@ pub fn segment(
         decision,
         refusal: r.refusal,
         records: r.records,
-    }
-}
-
-// So many octets of a list from a position on, or none where they are not all inside.
-fn part_of(s: &[u8], start: usize, n: usize) -> &[u8]
-    ensures { λ r. ⌜ now r ≡ partOf (now (s .entry)) start n ⌝ }
-{
-    if s.len() < start {
-        return &s[..0];
-    }
-    if s.len() - start < n {
-        return &s[..0];
-    }
-    let end = start + n;
-    &s[start..end]
-}
-
-// So many octets from the start of a place's stretch of the store, or none where they are not all inside it.
-fn part_of_place(store: &[u8], place: usize, n: usize) -> &[u8]
-    ensures { λ r. ⌜ now r ≡ partOfPlace (now (store .entry)) place n ⌝ }
-{
-    let inside = (place < 16) & (n <= 2048);
-    if inside {
-        return part_of(store, 2048 * place, n);
-    }
-    &store[..0]
-}
-
-// What was delivered: a part of the parameter or a part of the store, according to the decision.
-pub fn delivery<'a>(decision: Decision, s: &'a [u8], store: &'a [u8]) -> &'a [u8]
-    ensures { λ r. ⌜ now r ≡ delivery decision (now (s .entry)) (now (store .entry)) ⌝ }
-{
-    match decision {
-        Decision::Delivered(part) => match part {
-            Part::OfParameter { start, length } => part_of(s, start, length),
-            Part::OfStore { place, length } => part_of_place(store, place, length),
-        },
-        Decision::Refused => &s[..0],
-        Decision::Saved(_) => &s[..0],
-        Decision::Lost(_, _) => &s[..0],
     }
 }

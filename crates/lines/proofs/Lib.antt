@@ -1,3 +1,0 @@
-mod Carrying
-pub mod Reported
-pub mod Stepping

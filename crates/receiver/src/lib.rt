@@ -38,5 +38,5 @@ pub fn release(t: Table, report: &mut [u8], association: u16) -> Swept
 pub fn delivery<'a>(decision: Decision, s: &'a [u8], store: &'a [u8]) -> &'a [u8]
     ensures { λ r. ⌜ now r ≡ delivery decision (now (s .entry)) (now (store .entry)) ⌝ }
 {
-    joining::delivery(decision, s, store)
+    delivery::delivery(decision, s, store)
 }

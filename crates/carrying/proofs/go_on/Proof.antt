@@ -1,7 +1,7 @@
-use Rattle.lines.proofs.Stepping.{puts}
+use Rattle.carrying.proofs.Stepping.{puts}
 use borrow.Author.Needs.{needs}
-use Rattle.lines.proofs.go_on.Statement.{statement}
-use Rattle.lines.proofs.go_on.Tie as tie
+use Rattle.carrying.proofs.go_on.Statement.{statement}
+use Rattle.carrying.proofs.go_on.Tie as tie
 
 cast-saved : tie.Need-cast-saved
 cast-saved c = search needs

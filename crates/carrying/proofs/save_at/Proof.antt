@@ -2,8 +2,8 @@ use Prim.Native.Nat.{_+_, _*_}
 use Rattle.octets.proofs.Splice.{splice-part}
 use native.Mathlib.Omega.{arith}
 use borrow.Author.Needs.{needs}
-use Rattle.lines.proofs.save_at.Statement.{statement}
-use Rattle.lines.proofs.save_at.Tie as tie
+use Rattle.carrying.proofs.save_at.Statement.{statement}
+use Rattle.carrying.proofs.save_at.Tie as tie
 
 mul-start : tie.Need-mul-start
 mul-start c = search needs

@@ -1,9 +1,9 @@
 use native.Mathlib.Omega.{arith}
 use mathlib.Core.Path.{_∙_}
-use Rattle.lines.proofs.Stepping.{octets-most, segments-most}
+use Rattle.carrying.proofs.Stepping.{octets-most, segments-most}
 use borrow.Author.Needs.{needs}
-use Rattle.lines.proofs.broken.Statement.{statement}
-use Rattle.lines.proofs.broken.Tie as tie
+use Rattle.carrying.proofs.broken.Statement.{statement}
+use Rattle.carrying.proofs.broken.Tie as tie
 
 saved-in-requires : tie.Need-saved-in-requires
 saved-in-requires c κs = search needs

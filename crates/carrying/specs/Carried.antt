@@ -1,7 +1,7 @@
 -- A line carried out, by the one place that a segment is about: its key's, or where a new sequence goes.
-use Prim.Native.Nat.{ℕ, _+_, _≤_, _<_}
+use Prim.Native.Nat.{ℕ, _≤_, _<_}
 use mathlib.Core.Path.{_≡_}
-use mathlib.Core.Bool.{Bool, true, false}
+use mathlib.Core.Bool.{Bool}
 use mathlib.Core.List.{List}
 use lib.ListN.{length, getD, set}
 use Rattle.rules.specs.General.{if_then_else_}
@@ -10,15 +10,14 @@ use Rattle.rules.specs.Places.{freePlace, noPlace}
 use Rattle.octets.specs.Splice.{splice}
 use Rattle.rules.specs.Records.{recordOctets}
 use Rattle.rules.specs.Receiving.{openPlace, effectOf, Reception, receptionOf, withPlaces}
-use Rattle.lines.specs.declared.Step.{Step}
-use Rattle.lines.specs.declared.Judged.{Judged}
+use Rattle.carrying.specs.declared.Step.{Step}
+use Rattle.carrying.specs.declared.Judged.{Judged}
 use Rattle.rules.specs.declared.Place.{Place}
 use Rattle.rules.specs.declared.Table.{Table}
 use Rattle.rules.specs.declared.Record.{Record}
 use Rattle.rules.specs.declared.Found.{Found}
 use Rattle.rules.specs.declared.Found.the-variants.{At, Nothing}
 use Rattle.rules.specs.declared.Line.{Line}
-use Rattle.rules.specs.declared.Line.the-variants.{Unsegmented, Broken, Restart, Start, Final, Next}
 use Rattle.rules.specs.declared.Decision.{Decision}
 use Rattle.rules.specs.declared.Received.{Received}
 
@@ -59,15 +58,6 @@ pub record Leads (o : Reception) (t : Table) (at : ℕ) (r : Step) (store report
   pub answered : answerOf t at r ≡ o .answer
   pub stored : store ≡ o .store
   pub reported : report ≡ o .report
-
--- what a line tells of the key's sequence, with `saved` octets, and of the n octets of the segment
-abbrev pub Tells : Bool → ℕ → ℕ → Line → Type 0
-Tells isOpen saved n Unsegmented = Unit {0}
-Tells isOpen saved n (Broken cause) = Unit {0}
-Tells isOpen saved n Restart = isOpen ≡ true
-Tells isOpen saved n Start = isOpen ≡ false
-Tells isOpen saved n Final = (isOpen ≡ true) × (saved + n ≤ dataMost)
-Tells isOpen saved n Next = (isOpen ≡ true) × (saved + n ≤ dataMost)
 
 -- what a place of a sound table holds
 pub record Fit (p : Place) : Type 0 where

@@ -13,8 +13,8 @@ use Rattle.rules.specs.Receiving.{withPlaces}
 use Rattle.rules.specs.declared.Place.{Place}
 use Rattle.rules.specs.declared.Table.{Table}
 use Rattle.rules.specs.declared.Decision.{Decision}
-use Rattle.lines.specs.Carried.{foundIf, heldIf, stepTo, answerOf}
-use Rattle.lines.specs.declared.Step.{Step}
+use Rattle.carrying.specs.Carried.{foundIf, heldIf, stepTo, answerOf}
+use Rattle.carrying.specs.declared.Step.{Step}
 
 -- what a step puts is what its place was made to be
 pub puts : {r : Step} {p q : Place} {d : Decision} {n : ℕ} → r ≡ stepTo p d n → p ≡ q → r ≡ stepTo q d n

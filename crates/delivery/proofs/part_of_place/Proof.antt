@@ -6,8 +6,8 @@ use borrow.Author.Tests.{ltb-true}
 use mathlib.Core.Path.{_∙_}
 use native.Mathlib.Omega.{arith}
 use borrow.Author.Needs.{needs}
-use Rattle.joining.proofs.part_of_place.Statement.{statement}
-use Rattle.joining.proofs.part_of_place.Tie as tie
+use Rattle.delivery.proofs.part_of_place.Statement.{statement}
+use Rattle.delivery.proofs.part_of_place.Tie as tie
 
 mul-part-of : tie.Need-mul-part-of
 mul-part-of c =

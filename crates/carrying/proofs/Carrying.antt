@@ -13,11 +13,11 @@ use Rattle.rules.specs.declared.Found.the-variants.{At}
 use Rattle.rules.specs.declared.Part.the-variants.{OfParameter, OfStore}
 use Rattle.rules.specs.declared.Line.the-variants.{Unsegmented, Broken, Restart, Start, Final, Next}
 use Rattle.rules.specs.declared.Decision.the-variants.{Saved, Delivered, Lost}
-use Rattle.lines.specs.declared.Step.{Step}
-use Rattle.lines.specs.declared.Judged.{Judged}
-use Rattle.lines.specs.Carried.{foundIf, heldIf, Holds, carriedAt, stepTo, begunBy, Reports, Leads}
-use Rattle.lines.proofs.Stepping.{step-answer, kept, freed, instruction-is}
-use Rattle.lines.proofs.Reported.{one-record, no-record}
+use Rattle.carrying.specs.declared.Step.{Step}
+use Rattle.carrying.specs.declared.Judged.{Judged}
+use Rattle.carrying.specs.Carried.{foundIf, heldIf, Holds, carriedAt, stepTo, begunBy, Reports, Leads}
+use Rattle.carrying.proofs.Stepping.{step-answer, kept, freed, instruction-is}
+use Rattle.carrying.proofs.Reported.{one-record, no-record}
 
 module _ (t : Table) (j : Judged) (holds : Holds t j) (store report octets : List ℕ) (r : Step) where
   pub as-unsegmented : (reported : List ℕ) → r ≡ stepTo (j .held) (Delivered (OfParameter (j .fields .information) (length octets))) 1

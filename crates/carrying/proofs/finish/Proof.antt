@@ -1,8 +1,8 @@
 use native.Mathlib.Omega.{arith}
-use Rattle.lines.proofs.Stepping.{puts}
+use Rattle.carrying.proofs.Stepping.{puts}
 use borrow.Author.Needs.{needs}
-use Rattle.lines.proofs.finish.Statement.{statement}
-use Rattle.lines.proofs.finish.Tie as tie
+use Rattle.carrying.proofs.finish.Statement.{statement}
+use Rattle.carrying.proofs.finish.Tie as tie
 
 cast-saved : tie.Need-cast-saved
 cast-saved c = search needs

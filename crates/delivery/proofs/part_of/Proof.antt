@@ -4,8 +4,8 @@ use lib.ListN.{length}
 use borrow.Author.Tests.{lt-leb, le-leb}
 use native.Mathlib.Omega.{arith}
 use borrow.Author.Needs.{needs}
-use Rattle.joining.proofs.part_of.Statement.{statement}
-use Rattle.joining.proofs.part_of.Tie as tie
+use Rattle.delivery.proofs.part_of.Statement.{statement}
+use Rattle.delivery.proofs.part_of.Tie as tie
 
 slice-aggregate-result : tie.Need-slice-aggregate-result
 slice-aggregate-result c = search needs

@@ -1,8 +1,8 @@
 use denote.Ref.{now}
-use Rattle.lines.proofs.Carrying.{as-unsegmented, as-broken, as-restart, as-start, as-final, as-next}
+use Rattle.carrying.proofs.Carrying.{as-unsegmented, as-broken, as-restart, as-start, as-final, as-next}
 use borrow.Author.Needs.{needs}
-use Rattle.lines.proofs.carry_out.Statement.{statement}
-use Rattle.lines.proofs.carry_out.Tie as tie
+use Rattle.carrying.proofs.carry_out.Statement.{statement}
+use Rattle.carrying.proofs.carry_out.Tie as tie
 
 enum-told : tie.Need-enum-told
 enum-told c = search needs

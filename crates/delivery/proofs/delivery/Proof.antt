@@ -1,8 +1,8 @@
 use Rattle.rules.specs.Delivery.{delivery}
 use mathlib.Core.Path.{_∙_}
 use borrow.Author.Needs.{needs}
-use Rattle.joining.proofs.delivery.Statement.{statement}
-use Rattle.joining.proofs.delivery.Tie as tie
+use Rattle.delivery.proofs.delivery.Statement.{statement}
+use Rattle.delivery.proofs.delivery.Tie as tie
 
 enum-known-decision : tie.Need-enum-known-decision
 enum-known-decision c = search needs

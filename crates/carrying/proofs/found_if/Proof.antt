@@ -1,6 +1,6 @@
 use borrow.Author.Needs.{needs}
-use Rattle.lines.proofs.found_if.Statement.{statement}
-use Rattle.lines.proofs.found_if.Tie as tie
+use Rattle.carrying.proofs.found_if.Statement.{statement}
+use Rattle.carrying.proofs.found_if.Tie as tie
 
 returns : tie.Need-returns
 returns c = rw (c .if1 .taken)

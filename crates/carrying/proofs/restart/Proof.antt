@@ -1,7 +1,7 @@
-use Rattle.lines.proofs.Stepping.{puts}
+use Rattle.carrying.proofs.Stepping.{puts}
 use borrow.Author.Needs.{needs}
-use Rattle.lines.proofs.restart.Statement.{statement}
-use Rattle.lines.proofs.restart.Tie as tie
+use Rattle.carrying.proofs.restart.Statement.{statement}
+use Rattle.carrying.proofs.restart.Tie as tie
 
 tell-requires : tie.Need-tell-requires
 tell-requires c κs = search needs

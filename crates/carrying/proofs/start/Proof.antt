@@ -1,7 +1,7 @@
-use Rattle.lines.proofs.Stepping.{puts}
+use Rattle.carrying.proofs.Stepping.{puts}
 use borrow.Author.Needs.{needs}
-use Rattle.lines.proofs.start.Statement.{statement}
-use Rattle.lines.proofs.start.Tie as tie
+use Rattle.carrying.proofs.start.Statement.{statement}
+use Rattle.carrying.proofs.start.Tie as tie
 
 save-at-requires : tie.Need-save-at-requires
 save-at-requires c κs = search needs

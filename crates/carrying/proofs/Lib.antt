@@ -1,0 +1,3 @@
+mod Carrying
+pub mod Reported
+pub mod Stepping
