@@ -5,7 +5,7 @@ use mathlib.Core.Bool.{Bool}
 use mathlib.Core.List.{List}
 use lib.ListN.{length, getD, set}
 use Rattle.rules.specs.General.{if_then_else_}
-use Rattle.rules.specs.Numbers.{dataMost, storeLeast, placeCount}
+use Rattle.rules.specs.Numbers.{parameterMost, dataMost, storeLeast, placeCount}
 use Rattle.rules.specs.Places.{freePlace, noPlace}
 use Rattle.octets.specs.Splice.{splice}
 use Rattle.rules.specs.Records.{recordOctets}
@@ -67,6 +67,6 @@ pub record Fit (p : Place) : Type 0 where
 -- what carrying out a line is given: a store that is long enough, a short segment, a place of the table and what a sound one holds
 pub record Ready (j : Judged) (store octets : List ℕ) : Type 0 where
   pub enough : storeLeast ≤ length store
-  pub short : length octets ≤ 255
+  pub short : length octets ≤ parameterMost
   pub inside : j .at < placeCount
   pub fits : Fit (j .held)

@@ -12,7 +12,7 @@ ghost use mathlib.Core.Path.{_≡_};
 ghost use Prim.Native.Nat.{_+_, _≤_, _<_};
 ghost use lib.ListN.{length};
 ghost use Rattle.rules.specs.General.{if_then_else_};
-ghost use Rattle.rules.specs.Numbers.{stretchLength, dataMost, storeLeast, placeCount};
+ghost use Rattle.rules.specs.Numbers.{parameterMost, stretchLength, dataMost, storeLeast, placeCount};
 ghost use Rattle.rules.specs.Records.{delivered, lost};
 ghost use Rattle.rules.specs.Places.{freePlace};
 ghost use Rattle.rules.specs.Receiving.{openPlace, longer, recordWith, saveAt};
@@ -144,7 +144,7 @@ fn taken(put: Place, decision: Decision, records: u8) -> Step
 
 // The place of a sequence that begins with this segment, of n octets.
 fn begun_place(j: Judged, n: usize) -> Place
-    requires { ⌜ n ≤ 255 ⌝ }
+    requires { ⌜ n ≤ parameterMost ⌝ }
     ensures { λ r. ⌜ r ≡ begunBy j n ⌝ }
 {
     open_place(j, j.fields.heading.instruction, 1, n as u16, j.clock)
@@ -152,7 +152,7 @@ fn begun_place(j: Judged, n: usize) -> Place
 
 // An unsegmented parameter, with n octets of information, is delivered at once and touches no place.
 fn unsegmented(j: Judged, report: &mut [u8], n: usize) -> Step
-    requires { ⌜ n ≤ 255 ⌝ }
+    requires { ⌜ n ≤ parameterMost ⌝ }
     ensures { λ r. ⌜ r ≡ stepTo (j .held) (Decision.Delivered (Part.OfParameter (j .fields .information) n)) 1 ⌝ }
     ensures { λ _. ⌜ Reports (now (report .entry)) (recordWith delivered 0 (j .key) (j .fields .heading .instruction) 1 n) (now (report .exit)) ⌝ }
 {
@@ -168,7 +168,7 @@ fn unsegmented(j: Judged, report: &mut [u8], n: usize) -> Step
 
 // Lines 1, 4, 5 and 6: what was saved, if anything, and this segment, of n octets, are lost.
 fn broken(cause: u8, j: Judged, report: &mut [u8], n: usize) -> Step
-    requires { ⌜ (n ≤ 255) × Fit (j .held) ⌝ }
+    requires { ⌜ (n ≤ parameterMost) × Fit (j .held) ⌝ }
     ensures { λ r. ⌜ r ≡ stepTo (if j .found then freePlace else j .held) (Decision.Lost cause (foundIf (j .found) (j .at))) 1 ⌝ }
     ensures { λ _. ⌜ Reports (now (report .entry)) (recordWith lost cause (j .key) (if j .found then j .held .instruction else j .fields .heading .instruction) (heldIf (j .found) (j .held) .segments + 1) (heldIf (j .found) (j .held) .octets + n)) (now (report .exit)) ⌝ }
 {

@@ -12,7 +12,7 @@ ghost use mathlib.Core.Path.{_≡_};
 ghost use mathlib.Core.Bool.{true, false};
 ghost use Prim.Native.Nat.{_≤_, _<_};
 ghost use lib.ListN.{length, getD};
-ghost use Rattle.rules.specs.Numbers.{storeLeast, addressMost, placeCount};
+ghost use Rattle.rules.specs.Numbers.{parameterMost, storeLeast, addressMost, placeCount};
 ghost use Rattle.rules.specs.Places.{noPlace, placeOf, lowestFree};
 ghost use Rattle.rules.specs.Receiving.{keyOf, informationOf, segment};
 ghost use Rattle.rules.specs.Soundness.{sound};
@@ -127,7 +127,7 @@ fn arrive(
     held: Place,
 ) -> Step
     requires { ⌜ (sound t ≡ true) × (storeLeast ≤ length (now store)) ⌝ }
-    requires { ⌜ (length (now s) ≤ 255) × Seeks t (q .key) (f .heading) q ⌝ }
+    requires { ⌜ (length (now s) ≤ parameterMost) × Seeks t (q .key) (f .heading) q ⌝ }
     requires { ⌜ (q .at < placeCount) × (held ≡ getD (t .places) (q .at) noPlace) ⌝ }
     ensures { λ r. ⌜ Leads (arrival t (now (store .entry)) (now (report .entry)) (q .key) f (informationOf (now (s .entry)) f)) t (q .at) r (now (store .exit)) (now (report .exit)) ⌝ }
 {

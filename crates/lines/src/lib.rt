@@ -4,12 +4,13 @@ use rules::Line;
 use rules::Remaining;
 ghost use mathlib.Core.Path.{_≡_};
 ghost use Prim.Native.Nat.{_≤_};
+ghost use Rattle.rules.specs.Numbers.{parameterMost};
 ghost use Rattle.rules.specs.Receiving.{lineOf, isStart};
 ghost use Rattle.lines.specs.Telling.{Tells};
 
 // The line that applies: see the paper's seven.
 pub fn line_of(is_open: bool, before: Remaining, saved: u16, g: Heading, n: usize) -> Line
-    requires { ⌜ n ≤ 255 ⌝ }
+    requires { ⌜ n ≤ parameterMost ⌝ }
     ensures { λ r. ⌜ r ≡ lineOf «is_open» (before .0) saved g n ⌝ }
     ensures { λ r. ⌜ Tells «is_open» saved n r ⌝ }
 {

@@ -3,6 +3,7 @@ use mathlib.Core.Path.{refl, ap, _∙_}
 use denote.Ref.{now}
 use lib.ListN.{length, length-drop}
 use native.Mathlib.Omega.{arith}
+use Rattle.rules.specs.Numbers.{parameterMost}
 use Rattle.joining.specs.Arrival.{arrival}
 use Rattle.joining.proofs.Arriving.{leads-as, refuses, is-full, is-carried, fit}
 use borrow.Author.Needs.{needs}
@@ -10,7 +11,7 @@ use Rattle.joining.proofs.arrive.Statement.{statement}
 use Rattle.joining.proofs.arrive.Tie as tie
 
 -- the information is short
-info-short : (c : tie.After-tail) → length (now (c .tail .result)) ≤ 255
+info-short : (c : tie.After-tail) → length (now (c .tail .result)) ≤ parameterMost
 info-short c =
     let s = c .before .before .before .before in
     let e = ap length (c .tail .ensures) in
