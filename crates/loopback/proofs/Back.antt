@@ -29,9 +29,10 @@ use Rattle.rules.proofs.Cutting.{sendable, within-room, count-two, later-carrie
 use Rattle.demands.specs.Machine.{ours, Typed}
 use Rattle.demands.specs.Demand2.{Sending, numbered, kindIn, keyIn, header, countIn, segmentedIn, Sendable, sentBy, Meanwhile, stop, mine, other, Returns, RoundTrip}
 use Rattle.demands.proofs.Index.{demand-2}
-use Rattle.loopback.specs.Loopback.{fitChecks, loopChecks, Lap, lap, laps, standing, Looping, looping, lapOf, OfLap, OfReceipt, OfLoopback}
-use Rattle.loopback.specs.declared.Looped.{Looped}
-use Rattle.loopback.proofs.Laps.{one-lap}
+use Rattle.course.specs.Laps.{Lap, lap, laps, standing, lapOf, OfLap, OfReceipt}
+use Rattle.course.specs.declared.Looped.{Looped}
+use Rattle.course.proofs.Laps.{one-lap}
+use Rattle.loopback.specs.Loopback.{fitChecks, loopChecks, Looping, looping, OfLoopback}
 
 -- no check has the number 0
 some : (n : ℕ) → suc n ≡ 0 → ⊥

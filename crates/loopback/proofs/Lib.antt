@@ -1,3 +1,2 @@
-pub mod Laps
 pub mod Back
 pub mod Owned

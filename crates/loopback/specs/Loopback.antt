@@ -1,5 +1,5 @@
 -- THE LOOPBACK: data is cut by the sender, and each segment is handed to the receiver as it is cut. Both use the caller's table, and the sender's stays as it came.
-use Prim.Native.Nat.{ℕ, zero, suc}
+use Prim.Native.Nat.{ℕ}
 use mathlib.Core.Path.{_≡_}
 use mathlib.Core.Bool.{true, not}
 use mathlib.Core.List.{List, [], _∷_, _++_}
@@ -10,21 +10,12 @@ use Rattle.rules.specs.Refusals.{Check, _when_, accepted, judged}
 use Rattle.rules.specs.Records.{recordLength}
 use Rattle.rules.specs.Places.{lowestFree, isAt}
 use Rattle.rules.specs.Soundness.{sound}
-use Rattle.rules.specs.Receiving.{Reception, segment}
 use Rattle.rules.specs.Delivery.{delivery}
-use Rattle.rules.specs.Sending.{sendingChecks, sending}
-use Rattle.rules.specs.Sending as rule
+use Rattle.rules.specs.Sending.{sendingChecks}
 use Rattle.rules.specs.declared.Table.{Table}
-use Rattle.rules.specs.declared.Request.{Request}
-use Rattle.rules.specs.declared.Decision.{Decision}
-use Rattle.rules.specs.declared.Decision.the-variants.{Refused}
 use Rattle.demands.specs.Demand2.{Sending, numbered, countIn}
-use Rattle.loopback.specs.declared.Looped.{Looped}
-
--- what is asked for, as demand 2 has it; a sender uses no store
-abbrev pub asked : Table → Request → ℕ → List ℕ → List ℕ → List ℕ → Sending
-asked t q association o d whole =
-    record { table = t; store = []; request = q; origin = o; destination = d; whole = whole; association = association }
+use Rattle.course.specs.Laps.{Lap, laps, standing}
+use Rattle.course.specs.declared.Looped.{Looped}
 
 -- the conditions: the table is sound, the areas are long enough for any segment and its record, a place is free, and none of sending's own applies
 abbrev pub fitChecks : Table → ℕ → ℕ → ℕ → List Check
@@ -39,30 +30,6 @@ unfoldable pub loopChecks : Sending → List ℕ → List ℕ → List ℕ → L
 loopChecks x store report area =
     fitChecks (x .table) (length store) (length report) (length area)
     ++ sendingChecks (x .table) (numbered (x .request) 0) (x .origin) (x .destination) (x .whole) area
-
--- what there is between two segments: the receiver's table and areas, and of the last one its decision and its length
-pub record Lap : Type 0 where
-  pub table : Table
-  pub store : List ℕ
-  pub report : List ℕ
-  pub area : List ℕ
-  pub decision : Decision
-  pub length : ℕ
-
--- segment k is cut, and received
-abbrev pub lap : Sending → ℕ → Lap → Lap
-lap x k l =
-    let o : rule.Sending = sending (x .table) (numbered (x .request) k) (x .origin) (x .destination) (x .whole) (l .area) in
-    let r : Reception = segment (l .table) (l .store) (l .report) (x .association) (take (o .answer .length) (o .area)) in
-    record { table = r .answer .table; store = r .store; report = r .report; area = o .area; decision = r .answer .decision; length = o .answer .length }
-
--- n segments from segment k on
-unfoldable pub laps : ℕ → ℕ → Sending → Lap → Lap
-laps zero k x l = l
-laps (suc n) k x l = laps n (suc k) x (lap x k l)
-
-abbrev pub standing : Table → List ℕ → List ℕ → List ℕ → Lap
-standing t store report area = record { table = t; store = store; report = report; area = area; decision = Refused; length = 0 }
 
 pub record Looping : Type 0 where
   pub number : ℕ
@@ -89,19 +56,3 @@ pub record OfLoopback (x : Sending) (store report area : List ℕ) (answer : Loo
   pub always : accepted (loopChecks x store report area) ≡ true → answer .number ≡ 0
   -- and then the delivery asked for with the answer, the last segment and the store is the data
   pub returned : answer .number ≡ 0 → delivery (answer .decision) (take (answer .length) area′) store′ ≡ x .whole
-
--- a lap, and one segment's receipt, as the code answers them
-abbrev pub lapOf : Looped → List ℕ → List ℕ → List ℕ → Lap
-lapOf l store report area = record { table = l .table; store = store; report = report; area = area; decision = l .decision; length = l .length }
-
-pub record OfLap (want : Lap) (answer : Looped) (store′ report′ area′ : List ℕ) : Type 0 where
-  pub lapped : lapOf answer store′ report′ area′ ≡ want
-  pub number : answer .number ≡ 0
-
-abbrev pub received : Reception → ℕ → Looped
-received r n = record { table = r .answer .table; decision = r .answer .decision; length = n; number = 0 }
-
-pub record OfReceipt (want : Reception) (n : ℕ) (answer : Looped) (store′ report′ : List ℕ) : Type 0 where
-  pub answered : answer ≡ received want n
-  pub stored : store′ ≡ want .store
-  pub reported : report′ ≡ want .report

@@ -23,10 +23,11 @@ use Rattle.rules.specs.declared.Request.{Request}
 use Rattle.rules.specs.declared.Sent.{Sent}
 use Rattle.rules.specs.Promises.{OfSending}
 use Rattle.writing.specs.Writing.{Writable}
-use Rattle.sender.specs.Plan.{requestChecks, headerFor, cutChecks, pieceOf, planOf, headingWith, octetsWith, refusedAs, emitted, Emitted, Ready}
-use Rattle.sender.specs.declared.Piece.{Piece}
-use Rattle.sender.specs.declared.Plan.{Plan}
-use Rattle.sender.specs.declared.Plan.the-variants.{Cut, NoCut}
+use Rattle.cutting.specs.Plan.{headerFor, cutChecks, pieceOf, planOf}
+use Rattle.cutting.specs.declared.Piece.{Piece}
+use Rattle.cutting.specs.declared.Plan.{Plan}
+use Rattle.cutting.specs.declared.Plan.the-variants.{Cut, NoCut}
+use Rattle.sender.specs.Steps.{requestChecks, headingWith, octetsWith, refusedAs, emitted, Emitted, Ready}
 
 -- what is asked passes its checks
 pub record Asked (sound : Bool) (kind : ℕ) (q : Request) (o d n : ℕ) : Type 0 where
@@ -84,6 +85,22 @@ total-is g o d information = parameter-length g o d information ∙ go (isAlone 
         ≡ headerLength (g .kind) (g .context .0) o d + (if b then 0 else 1) + length information
     go true e = simp e (omega arith)
     go false e = simp e (omega arith)
+
+-- the heading of a piece's segment, from its reference
+abbrev numbered : ℕ → Request → Piece → ℕ → Heading
+numbered kind q p reference =
+    record {
+      context = q .context;
+      kind = kind;
+      instruction = q .instruction;
+      new = eqb (q .number) 0;
+      remaining = record { 0 = p .count - 1 - q .number };
+      reference = record { 0 = reference };
+    }
+
+pub heading-is : (kind : ℕ) (q : Request) (p : Piece) (reference : ℕ) → reference ≡ (if p .segmented then q .reference .0 else 255)
+    → numbered kind q p reference ≡ headingWith kind q p
+heading-is kind q p reference e = ap (numbered kind q p) e
 
 -- the heading of a piece can be written
 pub writable : (kind : ℕ) (q : Request) (p : Piece) (h : ℕ) (o d whole : List ℕ) → Ready kind q p h o d whole → Writable (headingWith kind q p)

@@ -1,5 +1,6 @@
 // Sending: data cut into segments, one segment a call.
-use rules::Context;
+use cutting::Piece;
+use cutting::Plan;
 use rules::Heading;
 use rules::Reference;
 use rules::Remaining;
@@ -7,26 +8,13 @@ use rules::Request;
 use rules::Sent;
 use rules::Table;
 ghost use mathlib.Core.Path.{_≡_};
-ghost use Prim.Native.Nat.{_+_, _-_, _≤_, _<_};
-ghost use lib.Dec.{ltb};
+ghost use Prim.Native.Nat.{_≤_};
 ghost use Rattle.rules.specs.General.{if_then_else_};
 ghost use Rattle.rules.specs.Refusals.{first};
 ghost use Rattle.rules.specs.Promises.{OfSending};
 ghost use Rattle.rules.specs.Layout.{isAlone};
-ghost use Rattle.sender.specs.Plan.{requestChecks, headerFor, planOf, segmentsPlan, stretchFrom, stretchSize, CutPossible, Possible, headingWith, octetsWith, Emitted, Ready};
-
-// The stretch of the data that a segment carries, and how many segments there are.
-pub struct Piece {
-    pub count: usize,
-    pub segmented: bool,
-    pub from: usize,
-    pub size: usize,
-}
-
-pub enum Plan {
-    Cut(Piece),
-    NoCut(u8),
-}
+ghost use Rattle.cutting.specs.Plan.{Possible};
+ghost use Rattle.sender.specs.Steps.{requestChecks, headingWith, octetsWith, Emitted, Ready};
 
 // The number of the first check that applies to what is asked, rooms and area aside; 0 where none does.
 fn request_refusal(sound: bool, kind: u8, q: Request, o: usize, d: usize, n: usize) -> u8
@@ -58,105 +46,6 @@ fn request_refusal(sound: bool, kind: u8, q: Request, o: usize, d: usize, n: usi
         return 16;
     }
     0
-}
-
-// h: the octets of a header without octet 3a.
-fn header_length(kind: u8, context: Context, o: usize, d: usize) -> usize
-    requires { ⌜ (o ≤ 20) × (d ≤ 20) ⌝ }
-    ensures { λ r. ⌜ r ≡ headerFor kind (context .0) o d ⌝ }
-    ensures { λ r. ⌜ r ≤ 46 ⌝ }
-{
-    let n = context_length(context);
-    if kind == 2 {
-        return n + 2 + (2 + o + d);
-    }
-    n + 2
-}
-
-// The octets of a context in its shortest form.
-fn context_length(context: Context) -> usize
-    ensures { λ r. ⌜ r ≡ (if ltb (context .0) 128 then 1 else 2) ⌝ }
-    ensures { λ r. ⌜ r ≤ 2 ⌝ }
-{
-    if context.0 < 128 {
-        return 1;
-    }
-    2
-}
-
-// Where the stretch of segment k starts, where the first carries a octets and each later one b.
-fn stretch_from(a: usize, b: usize, k: usize) -> usize
-    requires { ⌜ (a ≤ 255) × ((b ≤ 255) × (k < 10)) ⌝ }
-    ensures { λ r. ⌜ r ≡ stretchFrom a b k ⌝ }
-{
-    if k == 0 {
-        return 0;
-    }
-    a + (k - 1) * b
-}
-
-// How long it is at most.
-fn stretch_size(a: usize, b: usize, k: usize) -> usize
-    ensures { λ r. ⌜ r ≡ stretchSize a b k ⌝ }
-{
-    if k == 0 {
-        return a;
-    }
-    b
-}
-
-// The cut of n octets into segments, and segment k's stretch.
-fn cut_segments(a: usize, b: usize, n: usize, k: usize) -> Plan
-    requires { ⌜ (a ≤ 255) × ((1 ≤ b) × (b ≤ 255)) ⌝ }
-    requires { ⌜ (a ≤ n) × (n ≤ 2048) ⌝ }
-    ensures { λ r. ⌜ r ≡ segmentsPlan a b n k ⌝ }
-    ensures { λ r. ⌜ CutPossible k r ⌝ }
-{
-    let count = 1 + (n - a + (b - 1)) / b;
-    if 10 < count {
-        return Plan::NoCut(18);
-    }
-    if count <= k {
-        return Plan::NoCut(19);
-    }
-    Plan::Cut(Piece {
-        count,
-        segmented: true,
-        from: stretch_from(a, b, k),
-        size: stretch_size(a, b, k),
-    })
-}
-
-// The cut of n octets by the rooms, with h octets of header.
-fn cut(h: usize, q: Request, n: usize) -> Plan
-    requires { ⌜ (h ≤ 46) × (n ≤ 2048) ⌝ }
-    ensures { λ r. ⌜ r ≡ planOf h q n ⌝ }
-    ensures { λ r. ⌜ CutPossible (q .number) r ⌝ }
-{
-    if 255 < q.room1 {
-        return Plan::NoCut(18);
-    }
-    if 255 < q.room {
-        return Plan::NoCut(18);
-    }
-    if h + n <= q.room1 {
-        if 1 <= q.number {
-            return Plan::NoCut(19);
-        }
-        return Plan::Cut(Piece {
-            count: 1,
-            segmented: false,
-            from: 0,
-            size: n,
-        });
-    }
-    if q.room1 < h + 1 {
-        return Plan::NoCut(18);
-    }
-    if q.room < h + 2 {
-        return Plan::NoCut(18);
-    }
-    cut_segments(q.room1 - h - 1, q.room - h - 1, n, q.number)
 }
 
 // The reference that a segment repeats; an unsegmented parameter has none.
@@ -258,8 +147,8 @@ pub fn sending(
             length: 0,
         };
     }
-    let h = header_length(kind, context, o, d);
-    match cut(h, q, n) {
+    let h = cutting::header_length(kind, context, o, d);
+    match cutting::cut(h, q, n) {
         Plan::NoCut(number) => Sent {
             refusal: number,
             count: 0,

@@ -1,7 +1,7 @@
 use mathlib.Core.Path.{_∙_, ap}
 use lib.ListN.{length}
 use Rattle.sender.proofs.Steps.{writable, total, emit-refused, emit-done, stretch-short}
-use Rattle.sender.specs.Plan.{octetsWith}
+use Rattle.sender.specs.Steps.{octetsWith}
 use native.Mathlib.Omega.{arith}
 use borrow.Author.Needs.{needs}
 use Rattle.sender.proofs.emit.Statement.{statement}

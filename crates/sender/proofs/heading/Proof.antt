@@ -1,4 +1,4 @@
-use Rattle.sender.proofs.Stretches.{heading-is}
+use Rattle.sender.proofs.Steps.{heading-is}
 use borrow.Author.Needs.{needs}
 use Rattle.sender.proofs.heading.Statement.{statement}
 use Rattle.sender.proofs.heading.Tie as tie

@@ -1,7 +1,7 @@
 use mathlib.Core.Path.{sym}
-use Rattle.sender.proofs.Stretches.{size-later}
-use Rattle.sender.proofs.stretch_size.Statement.{statement}
-use Rattle.sender.proofs.stretch_size.Tie as tie
+use Rattle.cutting.proofs.Stretches.{size-later}
+use Rattle.cutting.proofs.stretch_size.Statement.{statement}
+use Rattle.cutting.proofs.stretch_size.Tie as tie
 
 returns : tie.Need-returns
 returns c = rw (c .if1 .taken)

@@ -1,8 +1,8 @@
 use borrow.Author.Tests.{lt-ltb, le-ltb}
 use mathlib.Core.Path.{refl}
 use native.Mathlib.Omega.{arith}
-use Rattle.sender.proofs.context_length.Statement.{statement}
-use Rattle.sender.proofs.context_length.Tie as tie
+use Rattle.cutting.proofs.context_length.Statement.{statement}
+use Rattle.cutting.proofs.context_length.Tie as tie
 
 returns : tie.Need-returns
 returns c = simp (lt-ltb _ _ (c .if1 .taken)) (refl, omega arith)

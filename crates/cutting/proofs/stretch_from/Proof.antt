@@ -1,9 +1,9 @@
 use mathlib.Core.Path.{sym}
-use Rattle.sender.proofs.Stretches.{from-later, starts-below}
+use Rattle.cutting.proofs.Stretches.{from-later, starts-below}
 use native.Mathlib.Omega.{arith}
 use borrow.Author.Needs.{needs}
-use Rattle.sender.proofs.stretch_from.Statement.{statement}
-use Rattle.sender.proofs.stretch_from.Tie as tie
+use Rattle.cutting.proofs.stretch_from.Statement.{statement}
+use Rattle.cutting.proofs.stretch_from.Tie as tie
 
 returns : tie.Need-returns
 returns c = rw (c .if1 .taken)

@@ -2,11 +2,11 @@ use Prim.Native.Nat.{_+_, _-_}
 use mathlib.Core.Bool.{true≢false}
 use native.Mathlib.Nat.{div-le-self}
 use borrow.Author.Tests.{lt-ltb, le-ltb, le-leb, lt-leb}
-use Rattle.sender.specs.Plan.{segmentsPlan}
+use Rattle.cutting.specs.Plan.{segmentsPlan}
 use native.Mathlib.Omega.{arith}
 use borrow.Author.Needs.{needs}
-use Rattle.sender.proofs.cut_segments.Statement.{statement}
-use Rattle.sender.proofs.cut_segments.Tie as tie
+use Rattle.cutting.proofs.cut_segments.Statement.{statement}
+use Rattle.cutting.proofs.cut_segments.Tie as tie
 
 sub-count : tie.Need-sub-count
 sub-count c = search needs

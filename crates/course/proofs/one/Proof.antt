@@ -1,9 +1,9 @@
 use denote.Ref.{now}
-use Rattle.loopback.specs.Loopback.{asked}
-use Rattle.loopback.proofs.Laps.{one-lap}
+use Rattle.course.specs.Laps.{asked}
+use Rattle.course.proofs.Laps.{one-lap}
 use borrow.Author.Needs.{needs}
-use Rattle.loopback.proofs.one.Statement.{statement}
-use Rattle.loopback.proofs.one.Tie as tie
+use Rattle.course.proofs.one.Statement.{statement}
+use Rattle.course.proofs.one.Tie as tie
 
 for-segment-requires : tie.Need-for-segment-requires
 for-segment-requires c κs = search needs

@@ -1,10 +1,10 @@
 use mathlib.Core.Path.{refl, _∙_}
 use borrow.Author.Tests.{lt-ltb, le-ltb, le-leb, lt-leb}
-use Rattle.sender.specs.Plan.{planOf, segmentsPlan}
+use Rattle.cutting.specs.Plan.{planOf, segmentsPlan}
 use native.Mathlib.Omega.{arith}
 use borrow.Author.Needs.{needs}
-use Rattle.sender.proofs.cut.Statement.{statement}
-use Rattle.sender.proofs.cut.Tie as tie
+use Rattle.cutting.proofs.cut.Statement.{statement}
+use Rattle.cutting.proofs.cut.Tie as tie
 
 returns : tie.Need-returns
 unfolding planOf

@@ -1,7 +1,7 @@
-use Rattle.loopback.proofs.Laps.{receipt}
+use Rattle.course.proofs.Laps.{receipt}
 use borrow.Author.Needs.{needs}
-use Rattle.loopback.proofs.receive.Statement.{statement}
-use Rattle.loopback.proofs.receive.Tie as tie
+use Rattle.course.proofs.receive.Statement.{statement}
+use Rattle.course.proofs.receive.Tie as tie
 
 stretch-requires : tie.Need-stretch-requires
 stretch-requires c κs = search needs

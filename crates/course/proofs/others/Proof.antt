@@ -5,10 +5,10 @@ use lib.ListN.{length}
 use native.Mathlib.Omega.{arith}
 use borrow.Author.Needs.{needs}
 use Rattle.demands.specs.Demand2.{Sending}
-use Rattle.loopback.specs.Loopback.{asked, laps, lapOf}
-use Rattle.loopback.proofs.Laps.{laps-next, laps-end}
-use Rattle.loopback.proofs.others.Statement.{statement}
-use Rattle.loopback.proofs.others.Tie as tie
+use Rattle.course.specs.Laps.{asked, laps, lapOf}
+use Rattle.course.proofs.Laps.{laps-next, laps-end}
+use Rattle.course.proofs.others.Statement.{statement}
+use Rattle.course.proofs.others.Tie as tie
 
 abbrev Inv-loop : tie.InvT-loop
 Inv-loop c count origin destination whole area₀ store₀ report₀ end l₀ k₀ area store report l k =

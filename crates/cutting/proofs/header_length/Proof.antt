@@ -2,8 +2,8 @@ use borrow.Author.Tests.{eq-eqb, ne-eqb}
 use native.Mathlib.Nat.{add-zero}
 use native.Mathlib.Omega.{arith}
 use borrow.Author.Needs.{needs}
-use Rattle.sender.proofs.header_length.Statement.{statement}
-use Rattle.sender.proofs.header_length.Tie as tie
+use Rattle.cutting.proofs.header_length.Statement.{statement}
+use Rattle.cutting.proofs.header_length.Tie as tie
 
 context-length-requires : tie.Need-context-length-requires
 context-length-requires c κs = search needs

@@ -13,8 +13,8 @@ use Rattle.rules.specs.declared.Request.{Request}
 use Rattle.rules.specs.declared.Received.{Received}
 use Rattle.rules.specs.declared.Sent.{Sent}
 use Rattle.demands.specs.Demand2.{Sending, numbered}
-use Rattle.loopback.specs.Loopback.{Lap, lap, laps, standing, lapOf, received, OfLap, OfReceipt}
-use Rattle.loopback.specs.declared.Looped.{Looped}
+use Rattle.course.specs.Laps.{Lap, lap, laps, standing, lapOf, received, OfLap, OfReceipt}
+use Rattle.course.specs.declared.Looped.{Looped}
 
 -- a segment that is a part of the area
 pub receipt : (t : Table) (store report : List ℕ) (association : ℕ) (s s′ : List ℕ) (n : ℕ) (r : Received) (store′ report′ : List ℕ)
