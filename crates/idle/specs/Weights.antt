@@ -1,5 +1,9 @@
 -- Weights: sums of numbers of four octets.
-use Prim.Native.Nat.{ℕ}
+use Prim.Native.Nat.{ℕ, _+_, _*_}
+
+-- four octets as one number, the first the least
+abbrev pub wordOf : ℕ → ℕ → ℕ → ℕ → ℕ
+wordOf a b c d = a + 256 * b + 65536 * c + 16777216 * d
 
 -- the largest number of four octets
 abbrev pub wordMost : ℕ

@@ -8,10 +8,11 @@ ghost use Rattle.rules.specs.General.{every};
 ghost use Rattle.rules.specs.Places.{isFree};
 ghost use Rattle.rules.specs.Soundness.{isZero, freeSound};
 ghost use Rattle.idle.specs.Idle.{soundIfIdle};
-ghost use Rattle.idle.specs.Weights.{wordMost};
+ghost use Rattle.idle.specs.Weights.{wordOf, wordMost};
 
-// Four octets as one number: where they stand in a row they are read at once.
-fn word(a: u8, b: u8, c: u8, d: u8) -> u64
+// Four octets as one number, the first the least: where they stand in a row they are read at once.
+pub fn word(a: u8, b: u8, c: u8, d: u8) -> u64
+    ensures { λ r. ⌜ r ≡ wordOf a b c d ⌝ }
     ensures { λ r. ⌜ eqb r 0 ≡ (isZero a && isZero b && isZero c && isZero d) ⌝ }
     ensures { λ r. ⌜ r ≤ wordMost ⌝ }
 {

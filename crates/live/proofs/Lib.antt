@@ -1,2 +1,2 @@
 pub mod Digest
-pub mod Zeros
+pub mod Filled

@@ -1,2 +1,3 @@
 pub mod Digest
 pub mod Open
+pub mod Filled

@@ -2,38 +2,52 @@
 use rules::Entry;
 use rules::Place;
 ghost use mathlib.Core.Path.{_≡_};
-ghost use mathlib.Core.List.{map};
-ghost use Prim.Native.Nat.{_≤_};
-ghost use lib.Dec.{ltb};
+ghost use mathlib.Core.List.{[], _∷_, map};
+ghost use Prim.Native.Nat.{_-_, _≤_};
 ghost use lib.ListN.{take, drop};
-ghost use Rattle.rules.specs.General.{if_then_else_, every, those};
+ghost use Rattle.rules.specs.General.{every, those};
 ghost use Rattle.rules.specs.Places.{isOpen};
 ghost use Rattle.rules.specs.Soundness.{isZero, addressSound, openSound};
 ghost use Rattle.live.specs.Digest.{digest};
+ghost use Rattle.live.specs.Filled.{mostOf, capped};
 ghost use Rattle.live.specs.Open.{soundIfOpen};
 
-// An octet where it stands at an index or behind it; before it 0.
-fn counted(x: u8, at: usize, i: usize) -> u16
-    ensures { λ r. ⌜ r ≡ (if ltb i at then 0 else x) ⌝ }
-    ensures { λ r. ⌜ r ≤ 255 ⌝ }
+// The largest number that n octets can make of those from index at on, eight at most.
+fn most(n: u8, at: u8) -> u64
+    ensures { λ r. ⌜ r ≡ mostOf (capped (n - at)) ⌝ }
 {
-    if i < at {
+    if n <= at {
         return 0;
     }
-    x as u16
+    let m = n - at;
+    match m {
+        1 => 255,
+        2 => 65535,
+        3 => 16777215,
+        4 => 4294967295,
+        5 => 1099511627775,
+        6 => 281474976710655,
+        7 => 72057594037927935,
+        0 | 8..=255 => 18446744073709551615,
+    }
 }
 
-// Whether an address is zero from index at on. Its octets are summed: with no way out of the loop it takes a few instructions in all.
-fn zero_from(a: [u8; 20], at: usize) -> bool
-    ensures { λ r. ⌜ r ≡ every isZero (drop at a) ⌝ }
+// Whether of an address with n octets the eight from index at on are zero behind the n: as one number they are not too large.
+fn zero_behind(a: u8, b: u8, c: u8, d: u8, e: u8, f: u8, g: u8, h: u8, n: u8, at: u8) -> bool
+    ensures { λ r. ⌜ r ≡ every isZero (drop (n - at) (a ∷ b ∷ c ∷ d ∷ e ∷ f ∷ g ∷ h ∷ [])) ⌝ }
 {
-    let mut sum: u16 = 0;
-    let mut i = 0;
-    while i < 20 {
-        sum += counted(a[i], at, i);
-        i += 1;
-    }
-    sum == 0
+    let number = idle::word(a, b, c, d) + 4294967296 * idle::word(e, f, g, h);
+    number <= most(n, at)
+}
+
+// Whether an address is zero behind its first n octets. Eight octets at a time: a loop over them took twice the instructions.
+fn zero_from(a: [u8; 20], n: u8) -> bool
+    ensures { λ r. ⌜ r ≡ every isZero (drop n a) ⌝ }
+{
+    let first = zero_behind(a[0], a[1], a[2], a[3], a[4], a[5], a[6], a[7], n, 0);
+    let second = zero_behind(a[8], a[9], a[10], a[11], a[12], a[13], a[14], a[15], n, 8);
+    let third = zero_behind(a[16], a[17], a[18], a[19], 0, 0, 0, 0, n, 16);
+    first & second & third
 }
 
 // Whether an open place's address is to 20, zero filled, and empty for 1998.
@@ -42,7 +56,7 @@ fn address_sound(kind: u8, p: Place) -> bool
 {
     let length = p.key.length;
     let address = p.key.address;
-    let filled = zero_from(address, length as usize);
+    let filled = zero_from(address, length);
     (length <= 20) & filled & (!(kind == 1) | (length == 0))
 }
 

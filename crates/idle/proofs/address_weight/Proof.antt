@@ -100,7 +100,7 @@ returns c =
     let f = e .before in
     let g = f .before in (
       simp sum-nought
-          (rw (c .word5 .ensures .0, d .word4 .ensures .0, e .word3 .ensures .0, f .word2 .ensures .0, g .word .ensures .0)
+          (rw (c .word5 .ensures .1 .0, d .word4 .ensures .1 .0, e .word3 .ensures .1 .0, f .word2 .ensures .1 .0, g .word .ensures .1 .0)
           (sym (twenty-nought (g .before .args .t1) (omega arith)))),
       search needs,
     )

@@ -64,8 +64,8 @@ returns c =
     let w = d .before in
     let k = c .struct-known6 .given in
     let p = w .before .before .before .before .before .before .before .args .p in (
-      weight-nought p (d .address-weight .result) (w .word .result) (d .address-weight .ensures .0) (w .word .ensures .0),
-      omega (arith, d .address-weight .ensures .1, w .word .ensures .1, k .0 .1 .0, k .0 .1 .1 .0, k .0 .1 .1 .1 .0, k .0 .1 .1 .1 .1 .0, k .1 .0, k .1 .1 .0),
+      weight-nought p (d .address-weight .result) (w .word .result) (d .address-weight .ensures .0) (w .word .ensures .1 .0),
+      omega (arith, d .address-weight .ensures .1, w .word .ensures .1 .1, k .0 .1 .0, k .0 .1 .1 .0, k .0 .1 .1 .1 .0, k .0 .1 .1 .1 .1 .0, k .1 .0, k .1 .1 .0),
     )
 
 pub weight-spec : {M : Type 1} → statement M

@@ -1,3 +1,4 @@
+use mathlib.Core.Path.{refl}
 use borrow.Author.Needs.{needs}
 use Rattle.idle.proofs.Weights.{word-nought}
 use Rattle.idle.proofs.word.Statement.{statement}
@@ -24,7 +25,7 @@ add-result-3 c = search needs
 returns : tie.Need-returns
 returns c =
     let a = c .args in
-    (word-nought (a .a) (a .b) (a .c) (a .d), search needs)
+    (refl, (word-nought (a .a) (a .b) (a .c) (a .d), search needs))
 
 pub word-spec : {M : Type 1} → statement M
 word-spec =

@@ -1,63 +1,109 @@
-use Prim.Native.Nat.{_-_, _*_, _≤_}
-use mathlib.Core.Path.{_≡_}
-use mathlib.Core.Bool.{_&&_}
-use lib.Dec.{eqb}
-use lib.ListN.{drop}
 use native.Mathlib.Omega.{arith}
+use Rattle.live.proofs.Filled.{in-three}
 use borrow.Author.Needs.{needs}
-use Rattle.rules.specs.General.{every}
-use Rattle.rules.specs.Soundness.{isZero}
-use Rattle.live.proofs.Zeros.{rest, zeros-start, zeros-more, zeros-end}
 use Rattle.live.proofs.zero_from.Statement.{statement}
 use Rattle.live.proofs.zero_from.Tie as tie
 
-abbrev Inv-loop : tie.InvT-loop
-Inv-loop at a sum₀ i₀ sum i = (every isZero (drop at a) ≡ (eqb sum 0 && every isZero (rest a at i))) × (sum ≤ 255 * i)
+array-read-zero-behind : tie.Need-array-read-zero-behind
+array-read-zero-behind c = search needs
 
-abbrev μ-loop : tie.MeasureT-loop
-μ-loop at a sum₀ i₀ sum i = 20 - i
+array-read-zero-behind-2 : tie.Need-array-read-zero-behind-2
+array-read-zero-behind-2 c = search needs
 
-loop-holds : tie.Need-loop-holds Inv-loop μ-loop
-loop-holds c = (zeros-start (c .args .t1) (c .args .at), omega arith)
+array-read-zero-behind-3 : tie.Need-array-read-zero-behind-3
+array-read-zero-behind-3 c = search needs
 
-array-read-counted : tie.Need-array-read-counted Inv-loop μ-loop
-array-read-counted c = omega arith
+array-read-zero-behind-4 : tie.Need-array-read-zero-behind-4
+array-read-zero-behind-4 c = search needs
 
-counted-requires : tie.Need-counted-requires Inv-loop μ-loop
-counted-requires c κs = search needs
+array-read-zero-behind-5 : tie.Need-array-read-zero-behind-5
+array-read-zero-behind-5 c = search needs
 
-add-sum : tie.Need-add-sum Inv-loop μ-loop
-add-sum c = omega (arith, c .counted .ensures .1)
+array-read-zero-behind-6 : tie.Need-array-read-zero-behind-6
+array-read-zero-behind-6 c = search needs
 
-add-i : tie.Need-add-i Inv-loop μ-loop
-add-i c = omega arith
+array-read-zero-behind-7 : tie.Need-array-read-zero-behind-7
+array-read-zero-behind-7 c = search needs
 
-loop-less : tie.Need-loop-less Inv-loop μ-loop
-loop-less c = omega arith
+array-read-zero-behind-8 : tie.Need-array-read-zero-behind-8
+array-read-zero-behind-8 c = search needs
 
-loop-again : tie.Need-loop-again Inv-loop μ-loop
-loop-again c =
-    let l = c .before .before in
-    let a = l .before .args in
-    (zeros-more (a .t1) (a .at) _ (l .loop .sum) (l .loop .i) _ (l .loop .inv .0) (omega arith) (c .counted .ensures .0), omega (arith, c .counted .ensures .1, l .loop .inv .1))
+zero-behind-requires : tie.Need-zero-behind-requires
+zero-behind-requires c κs = search needs
 
-returns : tie.Need-returns Inv-loop μ-loop
+array-read-zero-behind-9 : tie.Need-array-read-zero-behind-9
+array-read-zero-behind-9 c = search needs
+
+array-read-zero-behind-10 : tie.Need-array-read-zero-behind-10
+array-read-zero-behind-10 c = search needs
+
+array-read-zero-behind-11 : tie.Need-array-read-zero-behind-11
+array-read-zero-behind-11 c = search needs
+
+array-read-zero-behind-12 : tie.Need-array-read-zero-behind-12
+array-read-zero-behind-12 c = search needs
+
+array-read-zero-behind-13 : tie.Need-array-read-zero-behind-13
+array-read-zero-behind-13 c = search needs
+
+array-read-zero-behind-14 : tie.Need-array-read-zero-behind-14
+array-read-zero-behind-14 c = search needs
+
+array-read-zero-behind-15 : tie.Need-array-read-zero-behind-15
+array-read-zero-behind-15 c = search needs
+
+array-read-zero-behind-16 : tie.Need-array-read-zero-behind-16
+array-read-zero-behind-16 c = search needs
+
+zero-behind-requires-2 : tie.Need-zero-behind-requires-2
+zero-behind-requires-2 c κs = search needs
+
+array-read-zero-behind-17 : tie.Need-array-read-zero-behind-17
+array-read-zero-behind-17 c = search needs
+
+array-read-zero-behind-18 : tie.Need-array-read-zero-behind-18
+array-read-zero-behind-18 c = search needs
+
+array-read-zero-behind-19 : tie.Need-array-read-zero-behind-19
+array-read-zero-behind-19 c = search needs
+
+array-read-zero-behind-20 : tie.Need-array-read-zero-behind-20
+array-read-zero-behind-20 c = search needs
+
+zero-behind-requires-3 : tie.Need-zero-behind-requires-3
+zero-behind-requires-3 c κs = search needs
+
+returns : tie.Need-returns
 returns c =
-    let l = c .before in
-    let a = l .before .args in
-    zeros-end (a .t1) (a .at) _ (l .loop .sum) (l .loop .i) (l .loop .inv .0) (omega arith)
+    let z = c .before in
+    let f = z .before in
+    rw (c .zero-behind3 .ensures, z .zero-behind2 .ensures, f .zero-behind .ensures) (in-three (f .before .args .t1) (f .before .args .n) (omega arith))
 
 pub zero-from-spec : {M : Type 1} → statement M
 zero-from-spec =
     tie.close
     (tie.spec
-    Inv-loop
-    μ-loop
-    loop-holds
-    array-read-counted
-    counted-requires
-    add-sum
-    add-i
-    loop-less
-    loop-again
+    array-read-zero-behind
+    array-read-zero-behind-2
+    array-read-zero-behind-3
+    array-read-zero-behind-4
+    array-read-zero-behind-5
+    array-read-zero-behind-6
+    array-read-zero-behind-7
+    array-read-zero-behind-8
+    zero-behind-requires
+    array-read-zero-behind-9
+    array-read-zero-behind-10
+    array-read-zero-behind-11
+    array-read-zero-behind-12
+    array-read-zero-behind-13
+    array-read-zero-behind-14
+    array-read-zero-behind-15
+    array-read-zero-behind-16
+    zero-behind-requires-2
+    array-read-zero-behind-17
+    array-read-zero-behind-18
+    array-read-zero-behind-19
+    array-read-zero-behind-20
+    zero-behind-requires-3
     returns)
