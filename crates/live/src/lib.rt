@@ -40,7 +40,7 @@ fn zero_behind(a: u8, b: u8, c: u8, d: u8, e: u8, f: u8, g: u8, h: u8, n: u8, at
     number <= most(n, at)
 }
 
-// Whether an address is zero behind its first n octets. Eight octets at a time: a loop over them took twice the instructions.
+// Whether an address is zero behind its first n octets. Eight octets at a time: a loop takes some 50 instructions more.
 fn zero_from(a: [u8; 20], n: u8) -> bool
     ensures { λ r. ⌜ r ≡ every isZero (drop n a) ⌝ }
 {
