@@ -25,7 +25,7 @@ add-count-2 c = let a = c .args in omega (arith, div-le-self (a .n - a .a + (a .
 
 returns : tie.Need-returns
 unfolding segmentsPlan
-returns c = (simp (lt-ltb _ _ (c .if1 .taken)), tt)
+returns c = (simp (lt-ltb 10 _ (c .if1 .taken)), tt)
 
 returns-2 : tie.Need-returns-2
 unfolding segmentsPlan

@@ -5,7 +5,7 @@ use Rattle.events.proofs.kept.Statement.{statement}
 use Rattle.events.proofs.kept.Tie as tie
 
 returns : tie.Need-returns
-returns c = simp (lt-ltb _ _ (c .if1 .taken))
+returns c = simp (lt-ltb 24 _ (c .if1 .taken))
 
 array-write-registry : tie.Need-array-write-registry
 array-write-registry c = search needs

@@ -1,7 +1,9 @@
 use native.Mathlib.Omega.{arith}
 use borrow.Author.Tests.{ne-eqb}
-use lib.ListN.{drop, length-drop}
+use mathlib.Core.Path.{_≡_}
+use lib.ListN.{take, drop, length-drop}
 use lib.Seq.{take-all}
+use Rattle.octets.specs.Number.{number}
 use Rattle.items.proofs.item_of.Statement.{statement}
 use Rattle.items.proofs.item_of.Tie as tie
 
@@ -28,7 +30,8 @@ returns c =
     let s = c .before .before in
     let n = rw (s .match .keys1) at (s .before .before .pre) in
     let l = s .before .before .args .body .now in
-    rw (s .match .keys1, c .before .word .ensures, c .word2 .ensures, take-all 4 (drop 4 l) (rw length-drop (omega arith)))
+    let clock : c .word2 .result ≡ number (take 4 (drop 4 l)) = c .word2 .ensures in
+    rw (s .match .keys1, c .before .word .ensures, clock, take-all 4 (drop 4 l) (rw length-drop (omega arith)))
 
 returns-2 : tie.Need-returns-2
 returns-2 c = rw (c .before .before .match .keys2, c .before .pair .ensures)

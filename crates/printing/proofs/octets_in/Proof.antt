@@ -13,7 +13,7 @@ shared-slice-read-if1 c = search needs
 returns : tie.Need-returns
 returns c =
     let a = c .before .before .before .args in
-    (sym (record-there (now (a .report)) (a .at) (a .kind) ∙ simp (ne-eqb _ _ (c .if1 .taken))), omega arith)
+    (sym (record-there (now (a .report)) (a .at) (a .kind) ∙ simp (ne-eqb _ (a .kind) (c .if1 .taken))), omega arith)
 
 add-number2 : tie.Need-add-number2
 add-number2 c = search needs

@@ -1,4 +1,6 @@
-use mathlib.Core.Path.{_∙_}
+use mathlib.Core.Path.{_≡_, _∙_}
+use mathlib.Core.Bool.{true, _&&_}
+use lib.Dec.{eqb}
 use Rattle.rules.specs.Places.{sameKey}
 use borrow.Author.Needs.{needs}
 use Rattle.table.proofs.same_key.Statement.{statement}
@@ -9,7 +11,13 @@ same-octets-requires c κs = search needs
 
 returns : tie.Need-returns
 unfolding sameKey
-returns c = c .same-octets .ensures ∙ simp (c .before .before .before .if1 .taken)
+returns c =
+    let s = c .before .before .before in
+    let k = s .before .before .before .before .before .before .before .before .before .args in
+    let a = k .a in
+    let b = k .b in
+    let numbers : (eqb (a .association) (b .association) && eqb (a .context .0) (b .context .0) && eqb (a .reference .0) (b .reference .0) && eqb (a .length) (b .length)) ≡ true = s .if1 .taken in
+    c .same-octets .ensures ∙ simp numbers
 
 returns-2 : tie.Need-returns-2
 unfolding sameKey

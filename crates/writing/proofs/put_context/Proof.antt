@@ -20,7 +20,7 @@ same-length : tie.Need-same-length
 same-length c = search needs
 
 returns : tie.Need-returns
-returns c = simp (lt-ltb _ _ (c .before .before .before .before .before .if1 .taken)) (record { place = refl; stored = c .before .before .put-at .ensures })
+returns c = simp (lt-ltb _ 128 (c .before .before .before .before .before .if1 .taken)) (record { place = refl; stored = c .before .before .put-at .ensures })
 
 cast-t15 : tie.Need-cast-t15
 cast-t15 c = search needs
