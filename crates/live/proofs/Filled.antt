@@ -7,7 +7,7 @@ use native.Mathlib.Omega.{arith}
 use borrow.Author.Tests.{ltb-false, leb-true, leb-false, eqb-true, eqb-false, le-leb, lt-leb}
 use lib.Dec.{eqb, ltb, leb}
 use lib.ListN.{length, take, drop, getD, length-drop, drop-of-length-le}
-use lib.Seq.{drop-drop}
+use lib.Seq.{take-all, drop-nil, drop-drop}
 use Rattle.rules.specs.General.{every}
 use Rattle.rules.specs.Soundness.{isZero}
 use Rattle.rules.proofs.Lists.{left}
@@ -23,8 +23,7 @@ Octets [] = Unit {0}
 Octets (x ∷ l) = (x ≤ 255) × Octets l
 
 none-left : (m : ℕ) → every isZero (drop m []) ≡ true
-none-left zero = refl
-none-left (suc m) = refl
+none-left m = ap (every isZero) (drop-nil m)
 
 -- the first octet, where none may be but zero, and where it may be anything
 first-nought : (x n : ℕ) → leb (x + 256 * n) 0 ≡ (eqb x 0 && leb n 0)
@@ -113,15 +112,9 @@ in-three a n h =
     let all : n - 0 ≡ n = omega arith in
     let back : n - 8 - 8 ≡ n - 16 = omega arith in
     let rest : length (drop 16 a) ≤ 4 = rw (length-drop 16 a) (omega arith) in
-    let four : take 4 (drop 16 a) ≡ drop 16 a = all-taken 4 (drop 16 a) rest in
+    let four : take 4 (drop 16 a) ≡ drop 16 a = take-all 4 (drop 16 a) rest in
     rw all
     (sym (split 8 a n
     ∙ ap (λ (b : Bool). every isZero (drop n (take 8 a)) && b) (split 8 (drop 8 a) (n - 8))
     ∙ sym (and-assoc (every isZero (drop n (take 8 a))) (every isZero (drop (n - 8) (take 8 (drop 8 a)))) (every isZero (drop (n - 8 - 8) (drop 8 (drop 8 a)))))
     ∙ rw (back, drop-drop 8 8 a, ← run-is a 0 8 (omega arith), ← run-is a 8 8 (omega arith), ← four, ← run-is a 16 4 (omega arith), ← padded (run a 16 4) (n - 16))))
-  where
-    all-taken : (k : ℕ) (l : List ℕ) → length l ≤ k → take k l ≡ l
-    all-taken zero [] g = refl
-    all-taken zero (x ∷ l) g = absurd (let y : ⊥ = omega arith in y)
-    all-taken (suc k) [] g = refl
-    all-taken (suc k) (x ∷ l) g = ap {B = List ℕ} (λ (r : List ℕ). x ∷ r) (all-taken k l (omega arith))
