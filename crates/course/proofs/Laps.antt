@@ -12,8 +12,8 @@ use Rattle.rules.specs.declared.Table.{Table}
 use Rattle.rules.specs.declared.Request.{Request}
 use Rattle.rules.specs.declared.Received.{Received}
 use Rattle.rules.specs.declared.Sent.{Sent}
-use Rattle.demands.specs.Demand2.{Sending, numbered}
-use Rattle.course.specs.Laps.{Lap, lap, laps, standing, lapOf, received, OfLap, OfReceipt}
+use Rattle.demands.specs.Demand2.{numbered}
+use Rattle.course.specs.Laps.{Asked, Lap, lap, laps, standing, lapOf, received, OfLap, OfReceipt}
 use Rattle.course.specs.declared.Looped.{Looped}
 
 -- a segment that is a part of the area
@@ -28,7 +28,7 @@ receipt t store report association s s′ n r store′ report′ k e =
       reported = k .reported ∙ (λ i. segment t store report association (e i) .report);
     }
 
-module _ (x : Sending) (k : ℕ) (t : Table) (store report : List ℕ) where
+module _ (x : Asked) (k : ℕ) (t : Table) (store report : List ℕ) where
   cut : ℕ → List ℕ → Lap
   cut n area =
       let r : Reception = segment t store report (x .association) (take n area) in
@@ -48,13 +48,13 @@ module _ (x : Sending) (k : ℕ) (t : Table) (store report : List ℕ) where
       }
 
 -- the laps that are left, w in all: the next one, and none
-pub laps-next : (x : Sending) (end k : ℕ) (l l′ w : Lap) → w ≡ laps (end - k) k x l → k < end → l′ ≡ lap x k l → w ≡ laps (end - (k + 1)) (k + 1) x l′
+pub laps-next : (x : Asked) (end k : ℕ) (l l′ w : Lap) → w ≡ laps (end - k) k x l → k < end → l′ ≡ lap x k l → w ≡ laps (end - (k + 1)) (k + 1) x l′
 unfolding laps
 laps-next x end k l l′ w so under next =
     let e : end - k ≡ suc (end - (k + 1)) = omega arith in
     so ∙ rw (e, add-one, next)
 
-pub laps-end : (x : Sending) (end k : ℕ) (l w : Lap) → w ≡ laps (end - k) k x l → end ≤ k → l ≡ w
+pub laps-end : (x : Asked) (end k : ℕ) (l w : Lap) → w ≡ laps (end - k) k x l → end ≤ k → l ≡ w
 unfolding laps
 laps-end x end k l w so over =
     let e : end - k ≡ 0 = omega arith in

@@ -1,22 +1,28 @@
 -- What a loopback does segment by segment: each is cut by the sender, and handed to the receiver as it is cut. The sender's table stays as it came.
 use Prim.Native.Nat.{ℕ, zero, suc}
 use mathlib.Core.Path.{_≡_}
-use mathlib.Core.List.{List, []}
+use mathlib.Core.List.{List}
 use lib.ListN.{take}
 use Rattle.rules.specs.Receiving.{Reception, segment}
-use Rattle.rules.specs.Sending.{sending}
-use Rattle.rules.specs.Sending as rule
+use Rattle.rules.specs.Sending.{Sending, sending}
 use Rattle.rules.specs.declared.Table.{Table}
 use Rattle.rules.specs.declared.Request.{Request}
 use Rattle.rules.specs.declared.Decision.{Decision}
 use Rattle.rules.specs.declared.Decision.the-variants.{Refused}
-use Rattle.demands.specs.Demand2.{Sending, numbered}
+use Rattle.demands.specs.Demand2.{numbered}
 use Rattle.course.specs.declared.Looped.{Looped}
 
--- what is asked for, as demand 2 has it; a sender uses no store
-abbrev pub asked : Table → Request → ℕ → List ℕ → List ℕ → List ℕ → Sending
-asked t q association o d whole =
-    record { table = t; store = []; request = q; origin = o; destination = d; whole = whole; association = association }
+-- what is asked for: the request but for the segment number, both addresses and the data, the table that both sides use, and the association that carries it
+pub record Asked : Type 0 where
+  pub table : Table
+  pub request : Request
+  pub association : ℕ
+  pub origin : List ℕ
+  pub destination : List ℕ
+  pub whole : List ℕ
+
+abbrev pub asked : Table → Request → ℕ → List ℕ → List ℕ → List ℕ → Asked
+asked t q association o d whole = record { table = t; request = q; association = association; origin = o; destination = d; whole = whole }
 
 -- what there is between two segments: the receiver's table and areas, and of the last one its decision and its length
 pub record Lap : Type 0 where
@@ -28,14 +34,14 @@ pub record Lap : Type 0 where
   pub length : ℕ
 
 -- segment k is cut, and received
-abbrev pub lap : Sending → ℕ → Lap → Lap
+abbrev pub lap : Asked → ℕ → Lap → Lap
 lap x k l =
-    let o : rule.Sending = sending (x .table) (numbered (x .request) k) (x .origin) (x .destination) (x .whole) (l .area) in
+    let o : Sending = sending (x .table) (numbered (x .request) k) (x .origin) (x .destination) (x .whole) (l .area) in
     let r : Reception = segment (l .table) (l .store) (l .report) (x .association) (take (o .answer .length) (o .area)) in
     record { table = r .answer .table; store = r .store; report = r .report; area = o .area; decision = r .answer .decision; length = o .answer .length }
 
 -- n segments from segment k on
-unfoldable pub laps : ℕ → ℕ → Sending → Lap → Lap
+unfoldable pub laps : ℕ → ℕ → Asked → Lap → Lap
 laps zero k x l = l
 laps (suc n) k x l = laps n (suc k) x (lap x k l)
 

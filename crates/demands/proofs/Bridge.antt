@@ -11,11 +11,11 @@ use Rattle.demands.specs.Bridge.{Allowed, Keeps}
 -- a contract allows one outcome: the rule's
 pub by-contract : (st : State) (c : Call) (o : Outcome) → Allowed st c o → o ≡ step st c
 unfolding step
-by-contract st (Opens registry timer time) o a = a .is ∙ rw (a .keeps .answered)
-by-contract st (Arrives association s report) o a = a .is ∙ rw (a .keeps .answered, a .keeps .stored, a .keeps .reported)
-by-contract st (Ticks time report) o a = a .is ∙ rw (a .keeps .answered, a .keeps .reported)
-by-contract st (Releases association report) o a = a .is ∙ rw (a .keeps .answered, a .keeps .reported)
-by-contract st (Sends q p d whole area) o a = a .is ∙ rw (a .keeps .answered, a .keeps .written)
+by-contract st (Opens x) o a = a .is ∙ rw (a .keeps .answered)
+by-contract st (Arrives x) o a = a .is ∙ rw (a .keeps .answered, a .keeps .stored, a .keeps .reported)
+by-contract st (Ticks x) o a = a .is ∙ rw (a .keeps .answered, a .keeps .reported)
+by-contract st (Releases x) o a = a .is ∙ rw (a .keeps .answered, a .keeps .reported)
+by-contract st (Sends x) o a = a .is ∙ rw (a .keeps .answered, a .keeps .written)
 
 abbrev made : (State → Call → Outcome) → (Decision → List ℕ → List ℕ → List ℕ) → Machine
 made f g = record { step = f; deliver = g }

@@ -12,8 +12,8 @@ use Rattle.rules.specs.Places.{sameKey, noPlace, isOpen, holds}
 use Rattle.rules.specs.declared.Key.{Key}
 use Rattle.rules.specs.declared.Place.{Place}
 use Rattle.rules.proofs.Keys.{same-equal, same-self}
-use Rattle.demands.specs.History.{Segment, Cover, joined, filed}
-use Rattle.demands.specs.Demand3.{Counted, View, viewOf, heldFrom, lastRemaining, owing}
+use Rattle.demands.specs.History.{Segment, Cover, joined, lastRemaining, filed}
+use Rattle.demands.specs.Demand3.{Counted, View, viewOf, heldFrom, owing}
 
 -- what place i holds of a key
 abbrev pub here : List ℕ → Key → ℕ → Place → List View
@@ -134,7 +134,7 @@ joined-more : (l : List Segment) (x : Segment) → joined (l ++ (x ∷ [])) ≡ 
 joined-more [] x = append-nil (x .octets)
 joined-more (y ∷ l) x = ap (λ (m : List ℕ). y .octets ++ m) (joined-more l x) ∙ sym (append-assoc (y .octets) (joined l) (x .octets))
 
-last-more : (y : Segment) (l : List Segment) (x : Segment) → lastRemaining y (l ++ (x ∷ [])) ≡ x .remaining
+pub last-more : (y : Segment) (l : List Segment) (x : Segment) → lastRemaining y (l ++ (x ∷ [])) ≡ x .remaining
 last-more y [] x = refl
 last-more y (z ∷ l) x = last-more z l x
 

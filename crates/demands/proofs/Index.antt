@@ -1,4 +1,5 @@
--- Every theorem of the demands, by name: of the machine of the rules, and of whatever keeps the contracts of the code.
+-- Every theorem of the demands, by name: of the machine of the rules, and of whatever keeps the contracts of the code. The wrong machines are refuted in Rejected.antt.
+use mathlib.Core.Path.{refl}
 use Rattle.demands.specs.Machine.{Machine, ours}
 use Rattle.demands.specs.Demand1.{Demand1}
 use Rattle.demands.specs.Demand2.{Demand2}
@@ -6,17 +7,17 @@ use Rattle.demands.specs.Demand3.{Demand3}
 use Rattle.demands.specs.Timer.{Timer}
 use Rattle.demands.specs.Release.{Release}
 use Rattle.demands.specs.Soundness.{Sound}
+use Rattle.demands.specs.Exactly.{Exactly}
+use Rattle.demands.specs.Follows.{Orderly, Unforgetting}
 use Rattle.demands.specs.Bridge.{Keeps}
-use Rattle.demands.specs.Wrong as Wrong
-use Rattle.demands.proofs.Typed.{typed-opened, typed-kept}
 use Rattle.demands.proofs.Refused as Refused
 use Rattle.demands.proofs.Sound as Sound
 use Rattle.demands.proofs.Return as Return
 use Rattle.demands.proofs.Kept as Kept
 use Rattle.demands.proofs.Timing as Timing
 use Rattle.demands.proofs.Releasing as Releasing
+use Rattle.demands.proofs.Follows as Follows
 use Rattle.demands.proofs.Bridge.{carried-over}
-use Rattle.demands.proofs.Rejected as Rejected
 
 -- demand 1: every call is answered, refusals by number and in order, and a refused call changes nothing
 pub demand-1 : Demand1 ours
@@ -28,19 +29,30 @@ soundness = Sound.soundness
 
 -- demand 2: data that is cut comes back unchanged
 pub demand-2 : Demand2 ours
-demand-2 = Return.demand-2 typed-kept (soundness .kept)
+demand-2 = Return.demand-2
 
--- demand 3: every record covers what it says, every delivery is what its record covers, and what no record covers is what table and store hold
+-- demand 3: every record is the rules' and covers what it says, every delivery is what its record covers, and table and store are what the history tells
 pub demand-3 : Demand3 ours
-demand-3 = Kept.demand-3 typed-kept typed-opened
+demand-3 = Kept.demand-3
 
 -- the timer: a sequence is lost with cause 6 exactly when its true age reaches T at a clock call
 pub timer : Timer ours
-timer = Timing.timer typed-kept typed-opened
+timer = Timing.timer
 
 -- release: what is uncovered of an association is lost with cause 7 exactly at its release
 pub releasing : Release ours
-releasing = Releasing.releasing typed-kept typed-opened
+releasing = Releasing.releasing
+
+-- exactly: whatever else there is to see is the rules'
+pub exactly : Exactly ours
+exactly = record { every = λ st c s q. record { answer = refl; state = refl; handed = refl } }
+
+-- what follows, of any machine
+pub orderly : (m : Machine) → Demand3 m → Orderly m
+orderly = Follows.orderly
+
+pub unforgetting : (m : Machine) → Unforgetting m
+unforgetting = Follows.unforgetting
 
 -- all of it, of any machine that keeps the contracts of the public calls
 pub record All (m : Machine) : Type 0 where
@@ -50,50 +62,21 @@ pub record All (m : Machine) : Type 0 where
   pub timed : Timer m
   pub released : Release m
   pub sound : Sound m
+  pub exact : Exactly m
+  pub orderly : Orderly m
+  pub unforgetting : Unforgetting m
 
 pub of-code : (m : Machine) → Keeps m → All m
-of-code = carried-over All (record { one = demand-1; two = demand-2; three = demand-3; timed = timer; released = releasing; sound = soundness })
-
--- the wrong machines, and the demand that each breaks
-pub record Rejections : Type 0 where
-  pub refuses : Demand2 Wrong.refuses → ⊥
-  pub losesAll : Demand2 Wrong.losesAll → ⊥
-  pub forgets : Demand2 Wrong.forgets → ⊥
-  pub savesFirst : Demand2 Wrong.savesFirst → ⊥
-  pub invents : Demand2 Wrong.invents → ⊥
-  pub invents3 : Demand3 Wrong.invents → ⊥
-  pub neverRefuses : Demand1 Wrong.neverRefuses → ⊥
-  pub swallows : Demand3 Wrong.swallows → ⊥
-  pub handsOutEarly : Demand3 Wrong.handsOutEarly → ⊥
-  pub losesNothing : Demand3 Wrong.losesNothing → ⊥
-  pub releasesNothing : Release Wrong.releasesNothing → ⊥
-  pub comparesNumbers : Demand3 Wrong.comparesNumbers → ⊥
-  pub comparesFilled : Demand3 Wrong.comparesFilled → ⊥
-  pub dropsRestart : Demand3 Wrong.dropsRestart → ⊥
-  pub countsSaved : Demand3 Wrong.countsSaved → ⊥
-  pub tellsLast : Demand3 Wrong.tellsLast → ⊥
-  pub startsAnew : Timer Wrong.startsAnew → ⊥
-  pub subtractsPlainly : Timer Wrong.subtractsPlainly → ⊥
-
-pub rejected : Rejections
-rejected =
-    record {
-      refuses = Rejected.rejects-refuses;
-      losesAll = Rejected.rejects-losesAll;
-      forgets = Rejected.rejects-forgets;
-      savesFirst = Rejected.rejects-savesFirst;
-      invents = Rejected.rejects-invents-2;
-      invents3 = Rejected.rejects-invents;
-      neverRefuses = Rejected.rejects-neverRefuses;
-      swallows = Rejected.rejects-swallows;
-      handsOutEarly = Rejected.rejects-handsOutEarly;
-      losesNothing = Rejected.rejects-losesNothing;
-      releasesNothing = Rejected.rejects-releasesNothing;
-      comparesNumbers = Rejected.rejects-comparesNumbers;
-      comparesFilled = Rejected.rejects-comparesFilled;
-      dropsRestart = Rejected.rejects-dropsRestart;
-      countsSaved = Rejected.rejects-countsSaved;
-      tellsLast = Rejected.rejects-tellsLast;
-      startsAnew = Rejected.rejects-startsAnew;
-      subtractsPlainly = Rejected.rejects-subtractsPlainly;
-    }
+of-code =
+    carried-over All
+    (record {
+      one = demand-1;
+      two = demand-2;
+      three = demand-3;
+      timed = timer;
+      released = releasing;
+      sound = soundness;
+      exact = exactly;
+      orderly = orderly ours demand-3;
+      unforgetting = unforgetting ours;
+    })

@@ -1,33 +1,34 @@
--- The invariant between a state and the history that led there; every call keeps it.
-use Prim.Native.Nat.{ℕ, zero, suc, _-_, _≤_, _<_, _^_}
-use mathlib.Core.Path.{_≡_, refl, sym, ap, _∙_}
+-- DEMAND 3 of the machine that the rules are: the state and the history that led there agree, and every call keeps them so.
+use Prim.Native.Nat.{ℕ, _+_, _≤_, _<_, _^_}
+use mathlib.Core.Path.{_≡_, refl, sym, ap, subst, _∙_}
 use mathlib.Core.Bool.{Bool, true, false, not, _&&_, and-eq-true-iff}
-use mathlib.Core.List.{List, [], _∷_, _++_}
+use mathlib.Core.List.{List, [], _∷_, _++_, append-nil}
 use native.Mathlib.Omega.{arith}
 use borrow.Author.Tests.{ne-eqb, leb-true}
 use lib.Dec.{eqb, leb}
-use lib.ListN.{length, replicate, getD}
+use lib.ListN.{length, getD}
 use Rattle.octets.specs.Splice.{splice}
 use Rattle.rules.specs.General.{if_then_else_}
-use Rattle.rules.specs.Numbers.{age, entriesMost}
+use Rattle.rules.specs.Numbers.{age}
 use Rattle.rules.specs.Refusals.{accepted, first}
-use Rattle.rules.specs.Registry.{kindOf, entriesOf}
-use Rattle.rules.specs.Layout.{isAlone, contextOf, fieldsOf}
+use Rattle.rules.specs.Registry.{entriesOf}
+use Rattle.rules.specs.Layout.{isAlone, fieldsOf, readingChecks}
 use Rattle.rules.specs.Records.{recordsOctets, recordsFrom}
-use Rattle.rules.specs.Places.{sameKey, isOpen, noPlace, holds}
+use Rattle.rules.specs.Places.{sameKey, isOpen, noPlace, holds, placeOf, placeAt, lowestFree}
 use Rattle.rules.specs.Soundness.{placeSound, openSound, sound}
-use Rattle.rules.specs.Receiving.{keyOf, informationOf, Effect, Reception, receptionOf, receivedAt, segmentChecks, segment}
+use Rattle.rules.specs.Receiving.{keyOf, informationOf, lineOf, lineAt, Effect, effectOf, receptionOf, segmentChecks, segment}
 use Rattle.rules.specs.Delivery.{delivery}
-use Rattle.rules.specs.Sweep.{Sweeping, reportLeast, sweep, unswept, isDue, isOf, clockChecks, clock, releaseChecks, release}
-use Rattle.rules.specs.Opening.{noEntry, emptyTable, unopened, openingChecks, opening}
-use Rattle.rules.specs.Sending.{sending}
-use Rattle.rules.specs.Calls.{State, Call, Opens, Arrives, Ticks, Releases, Sends, Answer, Outcome, step}
+use Rattle.rules.specs.Sweep.{reportLeast, sweep, isDue, isOf, clockChecks, clock, releaseChecks, release}
+use Rattle.rules.specs.Opening.{emptyTable, unopened, openingChecks, opening}
+use Rattle.rules.specs.Calls.{State, Call, Opens, Arrives, Ticks, Releases, Sends, Opening, Arrival, Tick, Release, Dispatch, lentOf, Answer, answering, Outcome, afterOpening, afterSegment, afterSweep, step}
 use Rattle.rules.specs.declared.Entry.{Entry}
 use Rattle.rules.specs.declared.Key.{Key}
 use Rattle.rules.specs.declared.Place.{Place}
 use Rattle.rules.specs.declared.Table.{Table}
 use Rattle.rules.specs.declared.Fields.{Fields}
 use Rattle.rules.specs.declared.Record.{Record}
+use Rattle.rules.specs.declared.Found.{Found}
+use Rattle.rules.specs.declared.Line.{Line}
 use Rattle.rules.specs.declared.Opened.{Opened}
 use Rattle.rules.specs.declared.Decision.the-variants.{Refused}
 use Rattle.rules.proofs.Keys.{same-equal}
@@ -35,36 +36,20 @@ use Rattle.rules.proofs.Records.{records-back}
 use Rattle.rules.proofs.Held.{every-at, open-is, places-sound}
 use Rattle.rules.proofs.Reading.{parameter-short}
 use Rattle.rules.proofs.Arrived.{arrived as arrived-good}
-use Rattle.demands.specs.Machine.{ours, All, InRange, Typed}
-use Rattle.demands.specs.History.{Segment, Told, coversOf, recordsIn, isNone, with, settled, keyIn, segmentIn, restarts, nextOf, after, covers, beginning}
-use Rattle.demands.specs.Demand3.{Fair, owed, parameterOf, heldFrom, held, owing, Now, call, calls, opened, Demand3}
+use Rattle.demands.specs.Machine.{ours, checksOf, isOpening, parameterOf, All, InRange, Typed}
+use Rattle.demands.specs.Seen.{Seen, seenOf, seenBy}
+use Rattle.demands.specs.Demand1.{refusedState}
+use Rattle.demands.specs.History.{Segment, Told, Deed, Takes, Passes, Ends, joined, isNone, remainingOf, coversOf, coverOf, recordsIn, recordsOf, recordsBy, settled, deedsOf, counted, beginning, did, after, covers, EachIn}
+use Rattle.demands.specs.Demand3.{Ruled, IsLost, Fair, owed, heldFrom, held, owing, Agrees, Accounted, Demand3}
 use Rattle.demands.proofs.Holding.{none-held, owing-none}
-use Rattle.demands.proofs.ByLine.{begins}
-use Rattle.demands.proofs.Settling.{Arrived, leftIn, segment-done}
-use Rattle.demands.proofs.Sweeping.{losses, Swept, sweep-places, losses-few, losses-fit}
+use Rattle.demands.proofs.Settling.{Arrived, segmentWith, line-told, segment-done}
+use Rattle.demands.proofs.Sweeping.{losses, Swept, sweep-places, losses-lost}
 use Rattle.demands.proofs.Accepting.{alone-reference, key-fits, room-left, clock-good, release-good}
-use Rattle.demands.proofs.Refused.{refused-number}
-use Rattle.demands.proofs.Sparing.{registry-usable}
-
--- the table's registry, T and clock are what the history tells
-pub record Linked (t : Table) (h : Told) : Type 0 where
-  pub fields : (s : List ℕ) → fieldsOf (t .registry) s ≡ fieldsOf (h .registry) s
-  pub timer : t .timer ≡ h .timer
-  pub clock : t .clock ≡ h .time
-
--- an unsound table refuses every call, so there is nothing to link
-pub record Inv (st : State) (h : Told) : Type 0 where
-  pub typed : Typed (st .table)
-  pub exact : (k : Key) → held st k ≡ owing (h .uncovered k)
-  pub link : sound (st .table) ≡ true → Linked (st .table) h
-
--- what a call must do
-pub record Done (n : Now) (c : Call) (o : Outcome) : Type 0 where
-  pub fair : All Fair (covers (n .told) c (o .answer))
-  pub handed : delivery (o .answer .decision) (parameterOf c) (o .state .store) ≡ owed (covers (n .told) c (o .answer))
-  pub exact : (k : Key) → held (o .state) k ≡ owing (after (n .told) c (o .answer) .uncovered k)
-  pub unmoved : (o .answer .refusal ≡ 0 → ⊥) → (o .answer .records ≡ 0) × (o .state ≡ n .state)
-  pub link : sound (o .state .table) ≡ true → Linked (o .state .table) (after (n .told) c (o .answer))
+use Rattle.demands.proofs.Refused.{refusedOutcome, step-refused, refused-number}
+use Rattle.demands.proofs.Spared.{clash}
+use Rattle.demands.proofs.Sparing.{sweep-back}
+use Rattle.demands.proofs.Typed.{typed-kept, typed-opened}
+use Rattle.demands.proofs.Running.{meets}
 
 -- no open place of a sound table has the reference 255
 reference-low : (registry : List Entry) (timer clock : ℕ) (p : Place) → openSound registry timer clock p ≡ true → p .key .reference .0 ≤ 127
@@ -84,237 +69,228 @@ not-held t k s r j l = go (holds k (getD (t .places) j noPlace)) refl
         let z : ⊥ = omega arith in absurd z
     go false e = refl
 
-either-left : (b : Bool) (h : Told) (p q : Key → List Segment) (k : Key) → (if b then with h p else with h q) .uncovered k ≡ (if b then p else q) k
-either-left true h p q k = refl
-either-left false h p q k = refl
+-- a call with its outcome, as it is seen
+abbrev seenWith : State → Call → Outcome → Seen
+seenWith st c o = seenOf st c o (delivery (o .answer .decision) (parameterOf c) (o .state .store))
+
+-- a refused call does nothing
+no-deeds : (c : Call) → isOpening c ≡ false → (a : Answer) → (a .refusal ≡ 0 → ⊥) → deedsOf c a ≡ []
+unfolding deedsOf
+no-deeds (Opens x) o a z = cc
+no-deeds (Arrives x) o a z = rw (ne-eqb (a .refusal) 0 z)
+no-deeds (Ticks x) o a z = rw (ne-eqb (a .refusal) 0 z)
+no-deeds (Releases x) o a z = rw (ne-eqb (a .refusal) 0 z)
+no-deeds (Sends x) o a z = refl
+
+-- what the types of the table say, and the agreement
+pub record Inv (st : State) (h : Told) : Type 0 where
+  pub typed : Typed (st .table)
+  pub agrees : Agrees st h
 
 -- one call, at a state and a history that agree
-module _ (n : Now) (inv : Inv (n .state) (n .told)) where
+module _ (st : State) (h : Told) (inv : Inv st h) where
   abbrev t : Table
-  t = n .state .table
+  t = st .table
 
   abbrev store : List ℕ
-  store = n .state .store
+  store = st .store
 
-  abbrev told : Told
-  told = n .told
+  abbrev u : Key → List Segment
+  u = h .uncovered
 
-  -- a refused call moves nothing
-  refused-done : (c : Call) (a : Answer) → (a .refusal ≡ 0 → ⊥) → a .records ≡ 0 → a .decision ≡ Refused → Done n c (record { answer = a; state = n .state })
-  unfolding after covers delivery
-  refused-done c a z r d =
-      let e = ne-eqb (a .refusal) 0 z in
+  -- a call that does nothing
+  idle-done : (c : Call) (o : Outcome) → deedsOf c (o .answer) ≡ [] → o .answer .decision ≡ Refused → o .answer .records ≡ 0 → o .state ≡ st → Accounted h (seenWith st c o)
+  unfolding after covers EachIn delivery
+  idle-done c o e d r s =
       record {
+        recorded = rw (e, r);
+        ruled = rw e tt;
         fair = rw e tt;
         handed = rw (e, d);
-        exact = λ k. rw e (inv .exact k);
-        unmoved = λ y. (r, refl);
-        link = λ s. rw e (inv .link s);
+        agrees = rw (e, s)
+            (record { exact = inv .agrees .exact; registry = inv .agrees .registry; timer = inv .agrees .timer; clock = inv .agrees .clock });
+        unmoved = λ y z. s;
       }
 
-  -- an accepted segment
-  module _ (association : ℕ) (s report : List ℕ) where
-    abbrev arrivalOf : Reception → Outcome
-    arrivalOf o =
-        record {
-          answer = record { refusal = o .answer .refusal; records = o .answer .records; decision = o .answer .decision; count = 0; length = 0; lent = o .report };
-          state = record { table = o .answer .table; store = o .store };
-        }
+  -- a refused one
+  stays : (c : Call) → isOpening c ≡ false → refusedState st c ≡ st
+  stays (Opens x) o = cc
+  stays (Arrives x) o = refl
+  stays (Ticks x) o = refl
+  stays (Releases x) o = refl
+  stays (Sends x) o = refl
 
-    kept-link : (b : Bool) (a : Answer) → restarts told association s ≡ b → Linked t told → Linked t (nextOf told (Arrives association s report) a)
-    kept-link true a e l = rw e (record { fields = l .fields; timer = l .timer; clock = l .clock })
-    kept-link false a e l = rw e (record { fields = l .fields; timer = l .timer; clock = l .clock })
+  refused-done : (c : Call) → isOpening c ≡ false → accepted (checksOf st c) ≡ false → Accounted h (seenBy ours st c)
+  refused-done c o e =
+      subst (λ (out : Outcome). Accounted h (seenWith st c out)) (sym (step-refused st c e))
+      (idle-done c (refusedOutcome st c (first (checksOf st c))) (no-deeds c o _ (refused-number st c e)) refl refl (stays c o))
 
-    arrive-done : (e : Effect) → Linked t told → 32 ≤ length report → Arrived (told .uncovered) (keyIn told association s) (segmentIn told s) s (restarts told association s) e
-        → Done n (Arrives association s report) (arrivalOf (receptionOf t report e))
-    unfolding after covers held
-    arrive-done e l w d =
+  -- a segment
+  module _ (x : Arrival) where
+    abbrev s : List ℕ
+    s = x .parameter
+
+    -- its key, itself, and its line, by a registry and a time
+    abbrev keyBy : List Entry → Key
+    keyBy registry = keyOf (x .association) s (fieldsOf registry s)
+
+    abbrev segmentBy : List Entry → ℕ → Segment
+    segmentBy registry time = segmentWith (fieldsOf registry s) (informationOf s (fieldsOf registry s)) time (h .number + 1) (h .ticks)
+
+    abbrev lineBy : List Entry → Line
+    lineBy registry =
+        let l : List Segment = u (keyBy registry) in
+        lineOf (not (isNone l)) (remainingOf l) (length (joined l)) (fieldsOf registry s .heading) (length (informationOf s (fieldsOf registry s)))
+
+    abbrev Good : List Entry → ℕ → Effect → Type 0
+    Good registry time e = (accepted (readingChecks registry s) ≡ true) × Arrived u (keyBy registry) (segmentBy registry time) s (lineBy registry) e
+
+    arrive-done : (e : Effect) → 32 ≤ length (x .report) → Good (h .registry) (h .time) e → Accounted h (seenWith st (Arrives x) (afterSegment (receptionOf t (x .report) e)))
+    unfolding after covers EachIn deedsOf held
+    arrive-done e w g =
+        let d = g .1 in
         let o = d .one in
-        let back = records-back (e .records) report (d .fits) (omega arith) in
+        let back = records-back (e .records) (x .report) (d .fits) (omega arith) in
         record {
-          fair = rw back (d .fair);
-          handed = rw back (d .handed);
-          exact = λ k.
-              d .exact k
-              ∙ ap (λ (rs : List Record). owing (leftIn (restarts told association s) (told .uncovered) (keyIn told association s) (segmentIn told s) rs k)) (sym back)
-              ∙ ap owing (sym (either-left (restarts told association s) told _ _ k));
-          unmoved = λ y. absurd (y refl);
-          link = λ g. (let r = kept-link (restarts told association s) (arrivalOf (receptionOf t report e) .answer) refl l in record { fields = r .fields; timer = r .timer; clock = r .clock });
+          recorded = sym (append-nil _);
+          ruled = rw back (record { read = g .0; ends = d .ends }, tt);
+          fair = rw (back, append-nil) (d .fair);
+          handed = rw (back, append-nil) (d .handed);
+          agrees = rw back (record { exact = d .exact; registry = inv .agrees .registry; timer = inv .agrees .timer; clock = inv .agrees .clock });
+          unmoved = λ y z. absurd (y refl);
         }
 
-    -- the segment with its fields, and whether it restarts its sequence
-    abbrev segmentBy : Fields → ℕ → Segment
-    segmentBy f time = record { remaining = f .heading .remaining .0; instruction = f .heading .instruction; octets = informationOf s f; time = time; ticks = told .ticks }
-
-    abbrev restartsBy : Fields → Bool
-    restartsBy f = begins (f .heading) && not (isNone (told .uncovered (keyOf association s f)))
-
-    moved : (f f′ : Fields) (a b : ℕ) (e : Effect) → f ≡ f′ → a ≡ b → Arrived (told .uncovered) (keyOf association s f) (segmentBy f a) s (restartsBy f) e
-        → Arrived (told .uncovered) (keyOf association s f′) (segmentBy f′ b) s (restartsBy f′) e
-    moved f f′ a b e p q d = rw (← p, ← q) d
-
-    arrives-done : association < 2 ^ 16 → Done n (Arrives association s report) (step (n .state) (Arrives association s report))
+    arrives-done : x .association < 2 ^ 16 → Accounted h (seenBy ours st (Arrives x))
     unfolding step segment held
-    arrives-done small = go (accepted (segmentChecks t store report association s)) refl
+    arrives-done small = go (accepted (segmentChecks t store (x .report) (x .association) s)) refl
       where
-        go : (b : Bool) → accepted (segmentChecks t store report association s) ≡ b
-            → Done n (Arrives association s report) (arrivalOf (if b then receivedAt t store report association s
-            else record { answer = record { table = t; decision = Refused; refusal = first (segmentChecks t store report association s); records = 0 }; store = store; report = report }))
+        go : (b : Bool) → accepted (segmentChecks t store (x .report) (x .association) s) ≡ b → Accounted h (seenBy ours st (Arrives x))
         go true e =
-            let c = arrived-good t store report association s e in
-            let l = inv .link (c .table) in
+            let c = arrived-good t store (x .report) (x .association) s e in
             let f : Fields = fieldsOf (t .registry) s in
-            let k : Key = keyOf association s f in
-            let alone : (isAlone (f .heading .new) (f .heading .remaining .0) ≡ true → told .uncovered k ≡ []) =
-            (λ a. owing-none (told .uncovered k) (sym (inv .exact k) ∙ none-held store k 0 (t .places) (not-held t k (c .table) (alone-reference (t .registry) s (c .reading) a)))) in
-            arrive-done _ l (c .reports)
-            (moved f (fieldsOf (told .registry) s) (t .clock) (told .time) _ (l .fields s) (l .clock)
-            (segment-done t store s f k (told .uncovered) (inv .exact) (told .ticks) (c .table) (inv .typed .count) (c .stores)
-            (parameter-short (t .registry) s (c .reading)) (key-fits (t .registry) s (c .reading) association small) alone (room-left _ _ (c .room))))
-        go false e =
-            refused-done (Arrives association s report) _ (refused-number (n .state) (Arrives association s report) e) refl refl
+            let k : Key = keyBy (t .registry) in
+            let exact = inv .agrees .exact in
+            let alone : (isAlone (f .heading .new) (f .heading .remaining .0) ≡ true → u k ≡ []) =
+            (λ a. owing-none (u k) (sym (exact k) ∙ none-held store k 0 (t .places) (not-held t k (c .table) (alone-reference (t .registry) s (c .reading) a)))) in
+            let short = parameter-short (t .registry) s (c .reading) in
+            let fit = key-fits (t .registry) s (c .reading) (x .association) small in
+            let d = segment-done t store s f k u exact (h .number + 1) (h .ticks) (c .table) (inv .typed .count) (c .stores) short fit alone (room-left _ _ (c .room)) in
+            let told = line-told t store s f k u exact (h .number + 1) (h .ticks) (c .table) (inv .typed .count) (c .stores) short fit in
+            let place : Found = placeOf k (t .places) in
+            let effect : Effect = effectOf (lineAt t k (f .heading) (length (informationOf s f))) t store k f (informationOf s f) place (placeAt (t .places) place) (lowestFree (t .places)) in
+            rw e (arrive-done effect (c .reports) (rw (← inv .agrees .registry, ← inv .agrees .clock) (c .reading, rw (← told) d)))
+        go false e = refused-done (Arrives x) refl e
 
   -- a sweep
-  module _ (report : List ℕ) where
-    abbrev sweepOf : Sweeping → Outcome
-    sweepOf o =
+  module _ (test : Place → Bool) (opens : (p : Place) → test p ≡ true → isOpen p ≡ true) (cause : ℕ) (report : List ℕ) (good : sound t ≡ true)
+      (long : reportLeast ≤ length report) (time : ℕ) where
+    abbrev outcome : Outcome
+    outcome = afterSweep store (sweep test cause time t report)
+
+    abbrev made : List Record
+    made = losses test cause (t .places)
+
+    pub made-back : recordsIn (outcome .answer) ≡ made
+    made-back = sweep-back test opens cause t good (inv .typed) time report long
+
+    sweep-done : (c : Call) (d : List Record → Deed) → deedsOf c (outcome .answer) ≡ d (recordsIn (outcome .answer)) ∷ [] → recordsOf (d made) ≡ made → Ruled (counted h) (d made)
+        → coverOf (counted h) (d made) ≡ coversOf u made → did (counted h) (d made) .uncovered ≡ settled u made → did (counted h) (d made) .registry ≡ h .registry
+        → did (counted h) (d made) .timer ≡ h .timer → did (counted h) (d made) .time ≡ time → Accounted h (seenWith st c outcome)
+    unfolding sweep delivery held after covers EachIn
+    sweep-done c d e own ruled covering left registry timer clock =
+        let deeds : deedsOf c (outcome .answer) ≡ d made ∷ [] = e ∙ ap (λ (rs : List Record). d rs ∷ []) made-back in
+        let swept = sweep-places store test opens cause 0 (t .places) u (λ k. []) (inv .agrees .exact) in
         record {
-          answer = record { refusal = o .answer .refusal; records = o .answer .records; decision = Refused; count = 0; length = 0; lent = o .report };
-          state = record { table = o .answer .table; store = store };
+          recorded = made-back ∙ sym (ap recordsBy deeds ∙ append-nil (recordsOf (d made)) ∙ own);
+          ruled = rw deeds (ruled, tt);
+          fair = rw (deeds, append-nil, covering) (swept .fair);
+          handed = rw (deeds, append-nil, covering) (sym (swept .quiet));
+          agrees = rw deeds
+              (record {
+                exact = λ k. swept .exact k ∙ ap (λ (f : Key → List Segment). owing (f k)) (sym left);
+                registry = inv .agrees .registry ∙ sym registry;
+                timer = inv .agrees .timer ∙ sym timer;
+                clock = sym clock;
+              });
+          unmoved = λ y z. absurd (y refl);
         }
 
-    module _ (test : Place → Bool) (opens : (p : Place) → test p ≡ true → isOpen p ≡ true) (cause : ℕ) (good : sound t ≡ true) (long : reportLeast ≤ length report) where
-      abbrev made : List Record
-      made = losses test cause (t .places)
+  pub due-open : (time timer : ℕ) (p : Place) → isDue time timer p ≡ true → isOpen p ≡ true
+  due-open time timer p e = and-eq-true-iff (isOpen p) (leb timer (age time (p .start))) .0 e .0
 
-      pub sweep-back : recordsFrom (length made) (splice report 0 (recordsOctets made)) ≡ made
-      sweep-back =
-          let few = losses-few test cause (t .places) in
-          let c = inv .typed .count in
-          records-back made report
-          (losses-fit (t .registry) (t .timer) (t .clock) (registry-usable t good) test opens cause (t .places) (inv .typed .each) (places-sound t good))
-          (omega arith)
+  pub of-open : (association : ℕ) (p : Place) → isOf association p ≡ true → isOpen p ≡ true
+  of-open association p e = and-eq-true-iff (isOpen p) (eqb (p .key .association) association) .0 e .0
 
-      swept : Swept store test cause 0 (t .places) (told .uncovered) (λ k. [])
-      unfolding held
-      swept = sweep-places store test opens cause 0 (t .places) (told .uncovered) (λ k. []) (inv .exact)
-
-      abbrev after-sweep : ℕ → Outcome
-      after-sweep time = sweepOf (sweep test cause time t report)
-
-      sweep-done : (c : Call) (time : ℕ) → covers told c (after-sweep time .answer) ≡ coversOf (told .uncovered) (recordsIn (after-sweep time .answer))
-          → after told c (after-sweep time .answer) .uncovered ≡ settled (told .uncovered) (recordsIn (after-sweep time .answer))
-          → Linked (after-sweep time .state .table) (after told c (after-sweep time .answer)) → Done n c (after-sweep time)
-      unfolding sweep delivery held
-      sweep-done c time p q l =
-          record {
-            fair = rw (p, sweep-back) (swept .fair);
-            handed = rw (p, sweep-back) (sym (swept .quiet));
-            exact = λ k. swept .exact k ∙ ap (λ (rs : List Record). owing (settled (told .uncovered) rs k)) (sym sweep-back) ∙ ap (λ (u : Key → List Segment). owing (u k)) (sym q);
-            unmoved = λ y. absurd (y refl);
-            link = λ g. l;
-          }
-
-    ticks-done : (time : ℕ) → Done n (Ticks time report) (step (n .state) (Ticks time report))
-    unfolding step clock sweep after covers
-    ticks-done time = go (accepted (clockChecks t report time)) refl
-      where
-        go : (b : Bool) → accepted (clockChecks t report time) ≡ b
-            → Done n (Ticks time report) (sweepOf (if b then sweep (isDue time (t .timer)) 6 time t report else unswept t report (first (clockChecks t report time))))
-        go true e =
-            let c = clock-good t report time e in
-            let l = inv .link (c .0) in
-            sweep-done (isDue time (t .timer)) (λ p q. and-eq-true-iff (isOpen p) (leb (t .timer) (age time (p .start))) .0 q .0) 6 (c .0) (c .1) (Ticks time report) time refl refl
-            (record { fields = l .fields; timer = l .timer; clock = refl })
-        go false e = refused-done (Ticks time report) _ (refused-number (n .state) (Ticks time report) e) refl refl
-
-    releases-done : (association : ℕ) → Done n (Releases association report) (step (n .state) (Releases association report))
-    unfolding step release sweep after covers
-    releases-done association = go (accepted (releaseChecks t report)) refl
-      where
-        go : (b : Bool) → accepted (releaseChecks t report) ≡ b
-            → Done n (Releases association report) (sweepOf (if b then sweep (isOf association) 7 (t .clock) t report else unswept t report (first (releaseChecks t report))))
-        go true e =
-            let c = release-good t report e in
-            let l = inv .link (c .0) in
-            sweep-done (isOf association) (λ p q. and-eq-true-iff (isOpen p) (eqb (p .key .association) association) .0 q .0) 7 (c .0) (c .1) (Releases association report) (t .clock) refl refl
-            (record { fields = l .fields; timer = l .timer; clock = l .clock })
-        go false e = refused-done (Releases association report) _ (refused-number (n .state) (Releases association report) e) refl refl
-
-  pub call-done : (c : Call) → InRange c → Done n c (step (n .state) c)
-  unfolding step after covers delivery
-  call-done (Opens registry timer time) r = absurd r
-  call-done (Arrives association s report) r = arrives-done association s report r
-  call-done (Ticks time report) r = ticks-done report time
-  call-done (Releases association report) r = releases-done report association
-  call-done (Sends q o d whole area) r = go (eqb (sending t q o d whole area .answer .refusal) 0) refl
+  ticks-done : (x : Tick) → Accounted h (seenBy ours st (Ticks x))
+  unfolding step clock sweep deedsOf
+  ticks-done x = go (accepted (clockChecks t (x .report) (x .time))) refl
     where
-      go : (b : Bool) → eqb (sending t q o d whole area .answer .refusal) 0 ≡ b → Done n (Sends q o d whole area) (step (n .state) (Sends q o d whole area))
-      go true e = record { fair = rw e tt; handed = rw e; exact = λ k. rw e (inv .exact k); unmoved = λ y. (refl, refl); link = λ g. rw e (inv .link g) }
-      go false e = record { fair = rw e tt; handed = rw e; exact = λ k. rw e (inv .exact k); unmoved = λ y. (refl, refl); link = λ g. rw e (inv .link g) }
+      go : (b : Bool) → accepted (clockChecks t (x .report) (x .time)) ≡ b → Accounted h (seenBy ours st (Ticks x))
+      go true e =
+          let c = clock-good t (x .report) (x .time) e in
+          rw e (sweep-done (isDue (x .time) (t .timer)) (due-open (x .time) (t .timer)) 6 (x .report) (c .0) (c .1) (x .time) (Ticks x) (Passes (x .time)) refl refl
+          (losses-lost (isDue (x .time) (t .timer)) 6 (t .places)) refl refl refl refl refl)
+      go false e = refused-done (Ticks x) refl e
 
--- The opening
+  releases-done : (x : Release) → Accounted h (seenBy ours st (Releases x))
+  unfolding step release sweep deedsOf
+  releases-done x = go (accepted (releaseChecks t (x .report))) refl
+    where
+      go : (b : Bool) → accepted (releaseChecks t (x .report)) ≡ b → Accounted h (seenBy ours st (Releases x))
+      go true e =
+          let c = release-good t (x .report) e in
+          rw e (sweep-done (isOf (x .association)) (of-open (x .association)) 7 (x .report) (c .0) (c .1) (t .clock) (Releases x) (Ends (x .association)) refl refl
+          (losses-lost (isOf (x .association)) 7 (t .places)) refl refl refl refl (sym (inv .agrees .clock)))
+      go false e = refused-done (Releases x) refl e
 
-kind-padded : (es : List Entry) (m x : ℕ) → kindOf (es ++ replicate m noEntry) x ≡ kindOf es x
-kind-padded [] zero x = refl
-kind-padded [] (suc m) x = go (eqb 0 x) (kind-padded [] m x)
+  sends-done : (x : Dispatch) → Accounted h (seenBy ours st (Sends x))
+  unfolding step deedsOf
+  sends-done x = idle-done (Sends x) (step st (Sends x)) refl refl refl refl
+
+  pub call-done : (c : Call) → InRange c → isOpening c ≡ false → Accounted h (seenBy ours st c)
+  call-done (Opens x) r o = absurd (clash refl o)
+  call-done (Arrives x) r o = arrives-done x r
+  call-done (Ticks x) r o = ticks-done x
+  call-done (Releases x) r o = releases-done x
+  call-done (Sends x) r o = sends-done x
+
+-- The opening: by whether it is accepted
+abbrev openedBy : Opening → Bool → Opened
+openedBy x b =
+    if b then record { table = emptyTable (entriesOf (x .registry)) (x .timer) (x .time); refusal = 0 }
+    else record { table = unopened; refusal = first (openingChecks (x .registry) (x .timer)) }
+
+opened-zero : (st : State) (x : Opening) (b : Bool) → accepted (openingChecks (x .registry) (x .timer)) ≡ b → eqb (openedBy x b .refusal) 0 ≡ b
+opened-zero st x true e = refl
+opened-zero st x false e = ne-eqb (first (openingChecks (x .registry) (x .timer))) 0 (refused-number st (Opens x) e)
+
+opened-agrees : (store : List ℕ) (n : ℕ) (x : Opening) (b : Bool) → Agrees (record { table = openedBy x b .table; store = store }) (beginning n x b)
+unfolding held
+opened-agrees store n x true = record { exact = λ k. refl; registry = refl; timer = refl; clock = refl }
+opened-agrees store n x false = record { exact = λ k. refl; registry = refl; timer = refl; clock = refl }
+
+pub open-done : (st : State) (h : Told) (x : Opening) → Accounted h (seenBy ours st (Opens x))
+unfolding step opening after covers EachIn deedsOf delivery
+open-done st h x =
+    record {
+      recorded = refl;
+      ruled = (tt, tt);
+      fair = tt;
+      handed = refl;
+      agrees = go (accepted (openingChecks (x .registry) (x .timer))) refl;
+      unmoved = λ y z. absurd (clash refl z);
+    }
   where
-    go : (b : Bool) → kindOf (replicate m noEntry) x ≡ 0 → (if b then 0 else kindOf (replicate m noEntry) x) ≡ 0
-    go true e = refl
-    go false e = e
-kind-padded (e ∷ es) m x = rw (kind-padded es m x)
+    go : (b : Bool) → accepted (openingChecks (x .registry) (x .timer)) ≡ b
+        → Agrees (afterOpening (st .store) (openedBy x b) .state) (beginning (h .number + 1) x (eqb (openedBy x b .refusal) 0))
+    go b e = rw (opened-zero st x b e) (opened-agrees (st .store) (h .number + 1) x b)
 
-fields-same : (es ds : List Entry) (s : List ℕ) → kindOf es (contextOf s) ≡ kindOf ds (contextOf s) → fieldsOf es s ≡ fieldsOf ds s
-unfolding fieldsOf
-fields-same es ds s e = rw e
+-- what an opening and every call leave
+pub inv-opened : (st : State) (h : Told) (x : Opening) → Inv (step st (Opens x) .state) (after h (seenBy ours st (Opens x)))
+inv-opened st h x = record { typed = typed-opened st (x .registry) (x .timer) (x .time); agrees = open-done st h x .agrees }
 
--- what an opening answers, by whether it is accepted
-abbrev openedBy : List ℕ → ℕ → ℕ → Bool → Opened
-openedBy registry timer time b =
-    if b then record { table = emptyTable (entriesOf registry) timer time; refusal = 0 } else record { table = unopened; refusal = first (openingChecks registry timer) }
+pub inv-call : (st : State) (h : Told) → Inv st h → (c : Call) → InRange c → isOpening c ≡ false → Inv (step st c .state) (after h (seenBy ours st c))
+inv-call st h inv c r o = record { typed = typed-kept st c (inv .typed) r; agrees = call-done st h inv c r o .agrees }
 
--- what the types of the table's fields say holds after any call
-module _ (typed-kept : (st : State) (c : Call) → Typed (st .table) → InRange c → Typed (step st c .state .table))
-    (typed-opened : (st : State) (registry : List ℕ) (timer time : ℕ) → Typed (step st (Opens registry timer time) .state .table)) where
-  begins-held : (st : State) (registry : List ℕ) (timer time : ℕ) (k : Key) → held (step st (Opens registry timer time) .state) k ≡ []
-  unfolding step opening held
-  begins-held st registry timer time k = go (accepted (openingChecks registry timer))
-    where
-      go : (b : Bool) → heldFrom (st .store) k 0 (openedBy registry timer time b .table .places) ≡ []
-      go true = refl
-      go false = refl
-
-  begins-linked : (st : State) (registry : List ℕ) (timer time : ℕ) → sound (step st (Opens registry timer time) .state .table) ≡ true
-      → Linked (step st (Opens registry timer time) .state .table) (beginning registry timer time)
-  unfolding step opening sound
-  begins-linked st registry timer time = go (accepted (openingChecks registry timer))
-    where
-      go : (b : Bool) → sound (openedBy registry timer time b .table) ≡ true → Linked (openedBy registry timer time b .table) (beginning registry timer time)
-      go true s =
-          record {
-            fields = λ p. fields-same _ _ p (kind-padded (entriesOf registry) (entriesMost - length (entriesOf registry)) (contextOf p));
-            timer = refl;
-            clock = refl;
-          }
-      go false s = absurd (let z : _≡_ {A = ℕ} 0 1 = cc in omega arith)
-
-  pub inv-opened : (st : State) (registry : List ℕ) (timer time : ℕ) → Inv (step st (Opens registry timer time) .state) (beginning registry timer time)
-  inv-opened st registry timer time =
-      record { typed = typed-opened st registry timer time; exact = begins-held st registry timer time; link = begins-linked st registry timer time }
-
-  pub inv-call : (n : Now) → Inv (n .state) (n .told) → (c : Call) → InRange c → Inv (call ours n c .state) (call ours n c .told)
-  inv-call n inv c r = let d = call-done n inv c r in record { typed = typed-kept (n .state) c (inv .typed) r; exact = d .exact; link = d .link }
-
-  pub inv-calls : (n : Now) → Inv (n .state) (n .told) → (cs : List Call) → All InRange cs → Inv (calls ours n cs .state) (calls ours n cs .told)
-  inv-calls n inv [] r = inv
-  inv-calls n inv (c ∷ cs) r = inv-calls (call ours n c) (inv-call n inv c (r .0)) cs (r .1)
-
-  pub demand-3 : Demand3 ours
-  demand-3 =
-      record {
-        begins = begins-held;
-        goes = λ st registry timer time cs r c q.
-            (let n : Now = calls ours (opened ours st registry timer time) cs in
-            let d = call-done n (inv-calls (opened ours st registry timer time) (inv-opened st registry timer time) cs r) c q in
-            record { fair = d .fair; handed = d .handed; exact = d .exact; unmoved = d .unmoved });
-      }
+pub demand-3 : Demand3 ours
+demand-3 = meets Accounted Inv (λ st h x r. (open-done st h x, inv-opened st h x)) (λ st h inv c r o. (call-done st h inv c r o, inv-call st h inv c r o))

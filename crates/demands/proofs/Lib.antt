@@ -1,5 +1,6 @@
 pub mod Index
 pub mod Bridge
+pub mod Running
 pub mod Typed
 pub mod Refused
 pub mod Sound
@@ -16,4 +17,5 @@ pub mod Accepting
 pub mod Kept
 pub mod Timing
 pub mod Releasing
+pub mod Follows
 pub mod Rejected

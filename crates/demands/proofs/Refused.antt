@@ -13,11 +13,12 @@ use Rattle.rules.specs.Delivery.{delivery}
 use Rattle.rules.specs.Sweep.{sweep, clockChecks, clock, releaseChecks, release}
 use Rattle.rules.specs.Opening.{opening}
 use Rattle.rules.specs.Sending.{sendingChecks, sending}
-use Rattle.rules.specs.Calls.{State, Call, Opens, Arrives, Ticks, Releases, Sends, Outcome, step}
+use Rattle.rules.specs.Calls.{State, Call, Opens, Arrives, Ticks, Releases, Sends, lentOf, answering, Outcome, step}
 use Rattle.rules.specs.declared.Entry.{Entry}
 use Rattle.rules.specs.declared.Decision.the-variants.{Refused}
 use Rattle.rules.proofs.Refusals.{Least, least-append, least-if, least-less, first-least, accepted-first}
-use Rattle.demands.specs.Machine.{ours, checksOf, lentOf}
+use Rattle.demands.specs.Machine.{ours, checksOf}
+use Rattle.demands.specs.Seen.{seenBy}
 use Rattle.demands.specs.Demand1.{refusedState, Untouched, Demand1}
 
 -- what a call is refused by
@@ -57,12 +58,12 @@ others (c ∷ cs) = cs
 -- they have numbers over 1, which only the first may have
 pub others-least : (st : State) (c : Call) → Least 2 (others (checksOf st c))
 unfolding segmentChecks clockChecks releaseChecks sendingChecks
-others-least st (Opens registry timer time) = (omega arith, tt)
-others-least st (Arrives association s report) =
-    (omega arith, (omega arith, least-append 2 (readingChecks (st .table .registry) s) _ (reading-least (st .table .registry) s) (omega arith, tt)))
-others-least st (Ticks time report) = (omega arith, (omega arith, tt))
-others-least st (Releases association report) = (omega arith, tt)
-others-least st (Sends q o d whole area) =
+others-least st (Opens x) = (omega arith, tt)
+others-least st (Arrives x) =
+    (omega arith, (omega arith, least-append 2 (readingChecks (st .table .registry) (x .parameter)) _ (reading-least (st .table .registry) (x .parameter)) (omega arith, tt)))
+others-least st (Ticks x) = (omega arith, (omega arith, tt))
+others-least st (Releases x) = (omega arith, tt)
+others-least st (Sends x) =
     (omega arith, (omega arith, (omega arith, (omega arith, (omega arith, (omega arith, (omega arith, (omega arith, (omega arith, tt)))))))))
 
 checks-least : (st : State) (c : Call) → Least 1 (checksOf st c)
@@ -70,31 +71,31 @@ unfolding segmentChecks clockChecks releaseChecks sendingChecks
 checks-least st c = go c (least-less 2 1 (others (checksOf st c)) (omega arith) (others-least st c))
   where
     go : (c : Call) → Least 1 (others (checksOf st c)) → Least 1 (checksOf st c)
-    go (Opens registry timer time) h = (omega arith, h)
-    go (Arrives association s report) h = (omega arith, h)
-    go (Ticks time report) h = (omega arith, h)
-    go (Releases association report) h = (omega arith, h)
-    go (Sends q o d whole area) h = (omega arith, h)
+    go (Opens x) h = (omega arith, h)
+    go (Arrives x) h = (omega arith, h)
+    go (Ticks x) h = (omega arith, h)
+    go (Releases x) h = (omega arith, h)
+    go (Sends x) h = (omega arith, h)
 
 -- a call as it is when refused by a number
-abbrev refusedOutcome : State → Call → ℕ → Outcome
-refusedOutcome st c n = record { answer = record { refusal = n; records = 0; decision = Refused; count = 0; length = 0; lent = lentOf c }; state = refusedState st c }
+abbrev pub refusedOutcome : State → Call → ℕ → Outcome
+refusedOutcome st c n = record { answer = answering n 0 Refused (lentOf c); state = refusedState st c }
 
-step-refused : (st : State) (c : Call) → accepted (checksOf st c) ≡ false → step st c ≡ refusedOutcome st c (first (checksOf st c))
+pub step-refused : (st : State) (c : Call) → accepted (checksOf st c) ≡ false → step st c ≡ refusedOutcome st c (first (checksOf st c))
 unfolding step opening segment clock release sending
-step-refused st (Opens registry timer time) h = rw h
-step-refused st (Arrives association s report) h = rw h
-step-refused st (Ticks time report) h = rw h
-step-refused st (Releases association report) h = rw h
-step-refused st (Sends q o d whole area) h = rw h
+step-refused st (Opens x) h = rw h
+step-refused st (Arrives x) h = rw h
+step-refused st (Ticks x) h = rw h
+step-refused st (Releases x) h = rw h
+step-refused st (Sends x) h = rw h
 
 pub accepted-zero : (st : State) (c : Call) → accepted (checksOf st c) ≡ true → step st c .answer .refusal ≡ 0
 unfolding step opening segment clock release sweep sending
-accepted-zero st (Opens registry timer time) h = rw h
-accepted-zero st (Arrives association s report) h = rw h
-accepted-zero st (Ticks time report) h = rw h
-accepted-zero st (Releases association report) h = rw h
-accepted-zero st (Sends q o d whole area) h = rw h
+accepted-zero st (Opens x) h = rw h
+accepted-zero st (Arrives x) h = rw h
+accepted-zero st (Ticks x) h = rw h
+accepted-zero st (Releases x) h = rw h
+accepted-zero st (Sends x) h = rw h
 
 pub number : (st : State) (c : Call) → step st c .answer .refusal ≡ first (checksOf st c)
 number st c = go (accepted (checksOf st c)) refl
@@ -115,11 +116,9 @@ zero-accepted st c e = go (accepted (checksOf st c)) refl
     go true h = refl
     go false h = absurd (refused-number st c h (sym (number st c) ∙ e))
 
-untouched : (st : State) (c : Call) → accepted (checksOf st c) ≡ false → Untouched ours st c
+untouched : (st : State) (c : Call) → accepted (checksOf st c) ≡ false → Untouched (seenBy ours st c)
 unfolding delivery
-untouched st c h =
-    let e = step-refused st c h in
-    record { state = rw e; records = rw e; lent = rw e; count = rw e; length = rw e; decision = rw e; delivers = λ s store. rw e }
+untouched st c h = let e = step-refused st c h in record { state = rw e; answer = rw e; handed = rw e }
 
 pub demand-1 : Demand1 ours
 demand-1 =

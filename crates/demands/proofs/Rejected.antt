@@ -1,70 +1,85 @@
 -- Every wrong machine breaks a demand, at a small trace: registry 01 00 03, 02 00 04; T 100; clock 0; association 9. A name without a number refutes the demand that
 -- the machine was made to break; one with a number refutes that demand too.
-use Prim.Native.Nat.{ℕ, zero, suc, _≤_}
+use Prim.Native.Nat.{ℕ, zero, suc, _≤_, _<_}
 use native.Mathlib.Omega.{arith}
 use mathlib.Core.Path.{_≡_, refl, sym, ap}
 use mathlib.Core.Bool.{Bool, true, false, true≢false}
 use mathlib.Core.List.{List, [], _∷_}
-use borrow.Author.Tests.{le-ltb}
-use lib.Dec.{ltb}
 use lib.ListN.{length, getD, replicate, length-replicate}
 use Rattle.octets.specs.Splice.{splice}
-use Rattle.rules.specs.General.{if_then_else_}
-use Rattle.rules.specs.Numbers.{age, storeLeast, placeCount}
+use Rattle.rules.specs.General.{if_then_else_, every}
+use Rattle.rules.specs.Numbers.{age, storeLeast, placeCount, addressMost}
 use Rattle.rules.specs.Refusals.{accepted}
 use Rattle.rules.specs.Layout.{fieldsOf, readingChecks, parameterOctets}
 use Rattle.rules.specs.Records.{recordOctets, recordFrom, recordLength}
-use Rattle.rules.specs.Places.{sameKey, placeOf}
+use Rattle.rules.specs.Places.{sameKey, isFree, placeOf, lowestFree, freePlace}
 use Rattle.rules.specs.Soundness.{openSound, freeSound, sound}
 use Rattle.rules.specs.Receiving.{lineOf, effectOf, segmentChecks, segment}
 use Rattle.rules.specs.Sweep.{sweep, isDue, clockChecks, clock, releaseChecks, release, reportLeast}
 use Rattle.rules.specs.Delivery.{delivery}
-use Rattle.rules.specs.Opening.{opening}
+use Rattle.rules.specs.Opening.{noEntry, opening}
 use Rattle.rules.specs.Sending.{segmentOctets, sendingChecks, sending}
 use Rattle.rules.specs.Examples.{fresh}
-use Rattle.rules.specs.Calls.{State, Call, Opens, Arrives, Ticks, Releases, Sends, step}
+use Rattle.rules.specs.Calls.{State, Opening, Call, Opens, Arrives, Ticks, Releases, Sends, toArrive, toTick, toRelease, Answer, Outcome, step}
+use Rattle.rules.specs.declared.Entry.{Entry}
 use Rattle.rules.specs.declared.Key.{Key}
-use Rattle.demands.specs.Machine.{Machine, checksOf, All, InRange, Typed}
+use Rattle.rules.specs.declared.Part.the-variants.{OfStore}
+use Rattle.rules.specs.declared.Decision.the-variants.{Saved, Delivered}
+use Rattle.demands.specs.Machine.{Machine, checksOf, All, InRange, TypedPlace}
+use Rattle.demands.specs.Seen.{Seen, seenBy, runOf}
+use Rattle.demands.specs.History.{Told, deedsOf, after, covers, EachIn, silence, Along, Meets}
 use Rattle.demands.specs.Demand1.{Demand1}
-use Rattle.demands.specs.Demand2.{Demand2, Sending, Sendable, RoundTrip, stop, mine}
-use Rattle.demands.specs.History.{after, covers}
-use Rattle.demands.specs.Demand3.{Demand3, Accounted, View, calls, opened, held}
+use Rattle.demands.specs.Demand2.{Demand2, Sending, Sender, sendingOf, Sendable, countIn, Ready, RoundTrip, stop, mine}
+use Rattle.demands.specs.Demand3.{Demand3, Ending, View, held}
 use Rattle.demands.specs.Timer.{Timer}
 use Rattle.demands.specs.Release.{Release}
-use Rattle.demands.specs.Wrong.{joining, unchanged, sweeping}
-use Rattle.demands.proofs.Typed.{all-free}
-use Rattle.demands.specs.Wrong.{refuses, losesAll, forgets, savesFirst, invents, neverRefuses, swallows, handsOutEarly, losesNothing, releasesNothing}
-use Rattle.demands.specs.Wrong.{comparesNumbers, comparesFilled, dropsRestart, countsSaved, tellsLast, startsAnew, subtractsPlainly}
+use Rattle.demands.specs.Exactly.{Exactly, Bits, OfPlace, OfEntry, OfState, OfCall}
+use Rattle.demands.specs.Wrong
+use Rattle.demands.specs.Wrong.{joining, unchanged, sweeping, emptying, asRuled}
+use Rattle.demands.specs.Wrong.{refuses, losesAll, forgets, savesFirst, invents, inventsOctets, neverRefuses, swallows, handsOutEarly, handsOutMore}
+use Rattle.demands.specs.Wrong.{losesNothing, releasesNothing, recordsSending, clearsRegistry, movesTimer, movesClock}
+use Rattle.demands.specs.Wrong.{leavesOut, setsSpare, cutsPast, cutsByClock, writesNonsense}
+use Rattle.demands.specs.Wrong.{comparesNumbers, comparesFilled, takesHighest, losesEmpty, joinsOverGap, exchangesCauses, callsItDelivered}
+use Rattle.demands.specs.Wrong.{dropsRestart, countsSaved, tellsLast, startsAnew, subtractsPlainly}
 
 -- THE FRAMES of the errors, with nothing changed, are ours: so each machine differs by its error alone
-either : {A : Type 0} (b : Bool) (a : A) → (if b then a else a) ≡ a
-either true a = refl
-either false a = refl
+either : (b : Bool) {o o′ : Outcome} → (b ≡ true → o′ ≡ o) → (if b then o′ else o) ≡ o
+either true h = h refl
+either false h = refl
 
-pub joining-ours : (st : State) (c : Call) → joining placeOf unchanged .step st c ≡ step st c
+as-ours : (st : State) (c : Call) {o : Outcome} → (accepted (checksOf st c) ≡ true → o ≡ step st c) → (if accepted (checksOf st c) then o else step st c) ≡ step st c
+as-ours st c h = either (accepted (checksOf st c)) h
+
+pub joining-ours : (st : State) (c : Call) → joining placeOf lowestFree lineOf unchanged .step st c ≡ step st c
 unfolding step segment
-joining-ours st (Opens registry timer time) = either (accepted (checksOf st (Opens registry timer time))) (step st (Opens registry timer time))
-joining-ours st (Arrives association s report) = go (accepted (checksOf st (Arrives association s report))) refl
-  where
-    go : (b : Bool) → accepted (checksOf st (Arrives association s report)) ≡ b
-        → joining placeOf unchanged .step st (Arrives association s report) ≡ step st (Arrives association s report)
-    go true e = simp e
-    go false e = simp e
-joining-ours st (Ticks time report) = either (accepted (checksOf st (Ticks time report))) (step st (Ticks time report))
-joining-ours st (Releases association report) = either (accepted (checksOf st (Releases association report))) (step st (Releases association report))
-joining-ours st (Sends q o d whole area) = either (accepted (checksOf st (Sends q o d whole area))) (step st (Sends q o d whole area))
+joining-ours st (Opens x) = as-ours st (Opens x) (λ e. refl)
+joining-ours st (Arrives x) = as-ours st (Arrives x) (λ e. simp e)
+joining-ours st (Ticks x) = as-ours st (Ticks x) (λ e. refl)
+joining-ours st (Releases x) = as-ours st (Releases x) (λ e. refl)
+joining-ours st (Sends x) = as-ours st (Sends x) (λ e. refl)
 
 pub sweeping-ours : (st : State) (c : Call) → sweeping isDue .step st c ≡ step st c
 unfolding step clock
-sweeping-ours st (Opens registry timer time) = either (accepted (checksOf st (Opens registry timer time))) (step st (Opens registry timer time))
-sweeping-ours st (Arrives association s report) = either (accepted (checksOf st (Arrives association s report))) (step st (Arrives association s report))
-sweeping-ours st (Ticks time report) = go (accepted (checksOf st (Ticks time report))) refl
-  where
-    go : (b : Bool) → accepted (checksOf st (Ticks time report)) ≡ b → sweeping isDue .step st (Ticks time report) ≡ step st (Ticks time report)
-    go true e = simp e
-    go false e = simp e
-sweeping-ours st (Releases association report) = either (accepted (checksOf st (Releases association report))) (step st (Releases association report))
-sweeping-ours st (Sends q o d whole area) = either (accepted (checksOf st (Sends q o d whole area))) (step st (Sends q o d whole area))
+sweeping-ours st (Opens x) = as-ours st (Opens x) (λ e. refl)
+sweeping-ours st (Arrives x) = as-ours st (Arrives x) (λ e. refl)
+sweeping-ours st (Ticks x) = as-ours st (Ticks x) (λ e. simp e)
+sweeping-ours st (Releases x) = as-ours st (Releases x) (λ e. refl)
+sweeping-ours st (Sends x) = as-ours st (Sends x) (λ e. refl)
+
+pub sending-ours : (st : State) (c : Call) → Wrong.sending asRuled .step st c ≡ step st c
+unfolding step sending
+sending-ours st (Opens x) = as-ours st (Opens x) (λ e. refl)
+sending-ours st (Arrives x) = as-ours st (Arrives x) (λ e. refl)
+sending-ours st (Ticks x) = as-ours st (Ticks x) (λ e. refl)
+sending-ours st (Releases x) = as-ours st (Releases x) (λ e. refl)
+sending-ours st (Sends x) = as-ours st (Sends x) (λ e. simp e)
+
+pub emptying-ours : (st : State) (c : Call) → emptying (λ t. t) .step st c ≡ step st c
+emptying-ours st (Opens x) = as-ours st (Opens x) (λ e. refl)
+emptying-ours st (Arrives x) = as-ours st (Arrives x) (λ e. refl)
+emptying-ours st (Ticks x) = as-ours st (Ticks x) (λ e. refl)
+emptying-ours st (Releases x) = as-ours st (Releases x) (λ e. either (every isFree (step st (Releases x) .state .table .places)) (λ e′. refl))
+emptying-ours st (Sends x) = as-ours st (Sends x) (λ e. refl)
 
 -- THE TRACES
 abbrev registry : List ℕ
@@ -72,6 +87,9 @@ registry = 1 ∷ 0 ∷ 3 ∷ 2 ∷ 0 ∷ 4 ∷ []
 
 abbrev before : State
 before = record { table = fresh; store = replicate storeLeast 0 }
+
+abbrev openingAt : ℕ → Opening
+openingAt time = record { registry = registry; timer = 100; time = time }
 
 -- report areas for one record and for one of every place
 abbrev one : List ℕ
@@ -106,6 +124,17 @@ first3 = 0x83 ∷ 0x80 ∷ 0x42 ∷ 0x85 ∷ 0xAA ∷ []
 abbrev second3 : List ℕ
 second3 = 0x83 ∷ 0x80 ∷ 0x01 ∷ 0x85 ∷ 0xBB ∷ []
 
+-- the same with no octets
+abbrev empty1 : List ℕ
+empty1 = 0x83 ∷ 0x80 ∷ 0x42 ∷ 0x85 ∷ []
+
+abbrev empty2 : List ℕ
+empty2 = 0x83 ∷ 0x80 ∷ 0x01 ∷ 0x85 ∷ []
+
+-- after empty1, one of no octets that does not count on
+abbrev empty3 : List ℕ
+empty3 = 0x83 ∷ 0x80 ∷ 0x00 ∷ 0x85 ∷ []
+
 -- M11: first segments of one reference from the addresses 00 07, 07 00 and 07
 abbrev from0007 : List ℕ
 from0007 = 0x84 ∷ 0x80 ∷ 0x41 ∷ 0x85 ∷ 0x02 ∷ 0x00 ∷ 0x07 ∷ 0x00 ∷ 0xAA ∷ []
@@ -119,184 +148,392 @@ from07 = 0x84 ∷ 0x80 ∷ 0x41 ∷ 0x85 ∷ 0x01 ∷ 0x07 ∷ 0x00 ∷ 0xBB ∷
 abbrev key07 : Key
 key07 = record { address = 7 ∷ replicate 19 0; association = 9; context = record { 0 = 4 }; reference = record { 0 = 5 }; length = 1 }
 
--- what Demand 3 says of a last segment, after calls
-accounted : (m : Machine) → Demand3 m → (cs : List Call) → All InRange cs → (s : List ℕ) → Accounted m (calls m (opened m before registry 100 0) cs) (Arrives 9 s one)
-accounted m d cs good s = d .goes before registry 100 0 cs good (Arrives 9 s one) (omega arith)
+-- what a demand says of calls after an opening at a time, after one at 0, and of segments that arrive after that one
+abbrev told : Machine → ℕ → Told
+told m time = after silence (seenBy m before (Opens (openingAt time)))
 
--- .. and of one that comes after one other
-accounted2 : (m : Machine) → Demand3 m → (r s : List ℕ) → Accounted m (calls m (opened m before registry 100 0) (Arrives 9 r one ∷ [])) (Arrives 9 s one)
-accounted2 m d r s = accounted m d (Arrives 9 r one ∷ []) (omega arith, tt) s
+abbrev opened : Machine → ℕ → State
+opened m time = m .step before (Opens (openingAt time)) .state
 
--- one octet of a list, and when a view started
-second : List ℕ → ℕ
-second l = getD l 1 0
+calling-at : {d : Told → Seen → Type 0} {m : Machine} → Meets d m → (time : ℕ) → InRange (Opens (openingAt time)) → (cs : List Call) → All InRange cs
+    → Along d (told m time) (runOf m (opened m time) cs)
+calling-at d time range cs ranges = d .along before (openingAt time) cs (range, ranges) .1
 
-ninth : List ℕ → ℕ
-ninth l = getD l 8 0
+calling : {d : Told → Seen → Type 0} {m : Machine} → Meets d m → (cs : List Call) → All InRange cs → Along d (told m 0) (runOf m (opened m 0) cs)
+calling d cs ranges = calling-at d 0 (omega arith) cs ranges
 
-startIn : List View → ℕ
-startIn [] = 0
-startIn (v ∷ vs) = v .start
+abbrev arrivals : List (List ℕ) → List Call
+arrivals [] = []
+arrivals (s ∷ l) = toArrive 9 s one ∷ arrivals l
 
--- what Demand 2 says of data cut with rooms of 5 octets, which hold two octets of data in one segment, or one in each of several
-abbrev sent : List ℕ → Sending
-sent whole =
+in-range : (l : List (List ℕ)) → All InRange (arrivals l)
+in-range [] = tt
+in-range (s ∷ l) = (omega arith, in-range l)
+
+arriving : {d : Told → Seen → Type 0} {m : Machine} → Meets d m → (l : List (List ℕ)) → Along d (told m 0) (runOf m (opened m 0) (arrivals l))
+arriving d l = calling d (arrivals l) (in-range l)
+
+-- what a trace computes with, to be named on an `unfolding` line: the rules of the calls, and what is told of them
+ruling : Unit {0}
+unfolding opening segmentChecks segment clockChecks clock releaseChecks release sweep sendingChecks sending segmentOctets parameterOctets delivery step
+ruling = tt
+
+computing : Unit {0}
+unfolding ruling sound openSound freeSound readingChecks fieldsOf sameKey lineOf effectOf age splice recordOctets recordFrom deedsOf after covers EachIn held
+computing = tt
+
+-- an octet of a list and of the area that was sent to, and a number of a list's first element
+abbrev nth : ℕ → List ℕ → ℕ
+nth i l = getD l i 0
+
+abbrev inArea : ℕ → Answer → ℕ
+inArea i a = nth i (a .lent .area)
+
+abbrev ofFirst : {A : Type 0} → (A → ℕ) → List A → ℕ
+ofFirst f [] = 0
+ofFirst f (x ∷ l) = f x
+
+false≢true : false ≡ true → ⊥
+false≢true e = true≢false (sym e)
+
+all-replicate : {A : Type 0} (P : A → Type 0) (x : A) → P x → (n : ℕ) → All P (replicate n x)
+all-replicate P x h zero = tt
+all-replicate P x h (suc n) = (h, all-replicate P x h n)
+
+-- WHAT IS SENT, by the context and its kind, both rooms, the destination and the data
+abbrev cut : ℕ → ℕ → ℕ → List ℕ → List ℕ → Sending
+cut context kind room destination whole =
     record {
-      table = fresh;
-      store = [];
-      request = record { context = record { 0 = 3 }; instruction = 1; reference = record { 0 = 5 }; room1 = 5; room = 5; number = 0 };
+      request = record { context = record { 0 = context }; instruction = 1; reference = record { 0 = 5 }; room1 = room; room = room; number = 0 };
       origin = [];
-      destination = [];
+      destination = destination;
       whole = whole;
+      kind = kind;
       association = 9;
     }
 
-abbrev two : List ℕ
-two = 1 ∷ 2 ∷ []
+-- rooms of 5 octets hold two octets of data in one segment, or one in each of several
+abbrev two : Sending
+two = cut 3 1 5 [] (1 ∷ 2 ∷ [])
 
-abbrev three : List ℕ
-three = 1 ∷ 2 ∷ 3 ∷ []
+abbrev three : Sending
+three = cut 3 1 5 [] (1 ∷ 2 ∷ 3 ∷ [])
 
-abbrev areas : ℕ → List ℕ
-areas k = replicate 255 0
+-- one octet to the destination 07
+abbrev addressed : Sending
+addressed = cut 4 2 7 (7 ∷ []) (1 ∷ [])
 
-fits : (area : List ℕ) → 255 ≤ length area → ltb (length area) 5 ≡ false
-fits area long = le-ltb (length area) 5 (omega arith)
+-- from a table opened at a time, with an area of so many octets
+abbrev sender : ℕ → ℕ → Sender
+sender time n = record { state = record { table = opening registry 100 time .table; store = [] }; area = replicate n 0 }
 
-two-sendable : Sendable (sent two)
-unfolding sendingChecks sound freeSound openSound opening segmentOctets parameterOctets
-two-sendable zero lt area long = simp (fits area long)
-two-sendable (suc k) lt area long = let z : ⊥ = omega arith in absurd z
+two-sendable : (k : ℕ) → k < countIn two → Sendable two (sender 0 255) k
+unfolding computing
+two-sendable zero lt = record { kind = refl; good = refl }
+two-sendable (suc k) lt = let z : ⊥ = omega arith in absurd z
 
-three-sendable : Sendable (sent three)
-unfolding sendingChecks sound freeSound openSound opening segmentOctets parameterOctets
-three-sendable zero lt area long = simp (fits area long)
-three-sendable (suc zero) lt area long = simp (fits area long)
-three-sendable (suc (suc zero)) lt area long = simp (fits area long)
-three-sendable (suc (suc (suc k))) lt area long = let z : ⊥ = omega arith in absurd z
+three-sendable : (k : ℕ) → k < countIn three → Sendable three (sender 0 255) k
+unfolding computing
+three-sendable zero lt = record { kind = refl; good = refl }
+three-sendable (suc zero) lt = record { kind = refl; good = refl }
+three-sendable (suc (suc zero)) lt = record { kind = refl; good = refl }
+three-sendable (suc (suc (suc k))) lt = let z : ⊥ = omega arith in absurd z
 
 one-long : recordLength ≤ length one
 one-long = omega (arith, length-replicate {A = ℕ} recordLength 0)
 
-typed : Typed fresh
-unfolding opening
-typed = record { count = refl; each = all-free placeCount }
+-- the receiver
+ready : (whole : List ℕ) → Ready (cut 3 1 5 [] whole) before
+unfolding computing
+ready whole =
+    record {
+      sound = refl;
+      typed = record { count = refl; each = all-replicate TypedPlace freePlace (record { address = refl; association = omega arith }) placeCount };
+      kind = refl;
+      store = omega (arith, length-replicate {A = ℕ} storeLeast 0);
+      carrier = omega arith;
+    }
 
-trip : (m : Machine) → Demand2 m → (whole : List ℕ) → Sendable (sent whole) → RoundTrip m (sent whole) before areas one
-unfolding sound freeSound openSound opening
-trip m d whole good =
-    d .back (sent whole) good before refl typed refl (omega (arith, length-replicate {A = ℕ} storeLeast 0))
-    areas (λ k. omega (arith, length-replicate {A = ℕ} 255 0)) one one-long (omega arith)
+-- what Demand 2 says of two octets in one segment, and of three in three
+trip2 : {m : Machine} → Demand2 m → RoundTrip m two before one
+trip2 d = d .back two (λ k. sender 0 255) two-sendable before (ready (two .whole)) one one-long
+
+trip3 : {m : Machine} → Demand2 m → RoundTrip m three before one
+trip3 d = d .back three (λ k. sender 0 255) three-sendable before (ready (three .whole)) one one-long
 
 -- THE MACHINES
+-- the first of three is not accepted
 pub rejects-refuses : Demand2 refuses → ⊥
-unfolding opening
-rejects-refuses d = let z : _≡_ {A = ℕ} 1 0 = trip refuses d two two-sendable .made 0 (omega arith) .accepted in omega arith
+unfolding computing
+rejects-refuses d = let z : _≡_ {A = ℕ} 1 0 = trip3 d .first refl refl .accepted in omega arith
 
--- nothing is handed over of two octets
+-- the first of three is not saved
 pub rejects-losesAll : Demand2 losesAll → ⊥
-unfolding step segment segmentChecks fieldsOf readingChecks sound openSound freeSound lineOf effectOf opening splice sameKey recordOctets recordFrom age delivery sendingChecks sending segmentOctets parameterOctets
-rejects-losesAll d = let z : _≡_ {A = ℕ} 0 2 = ap length (trip losesAll d two two-sendable .alone refl .handed) in omega arith
+unfolding computing
+rejects-losesAll d = false≢true (trip3 d .first refl refl .saved)
 
 -- the second of three makes a record
 pub rejects-forgets : Demand2 forgets → ⊥
-unfolding step segment segmentChecks fieldsOf readingChecks sound openSound freeSound lineOf effectOf opening splice sameKey recordOctets recordFrom age delivery sendingChecks sending segmentOctets parameterOctets
-rejects-forgets d =
-    let z : _≡_ {A = ℕ} 1 0 = trip forgets d three three-sendable .later refl refl 1 (omega arith) before stop one one-long .0 (omega arith) .records in omega arith
+unfolding computing
+rejects-forgets d = let z : _≡_ {A = ℕ} 1 0 = trip3 d .later refl refl 1 (omega arith) before stop one one-long .0 (omega arith) .records in omega arith
 
+-- nothing is held of the first of two
 pub rejects-forgets-3 : Demand3 forgets → ⊥
-unfolding step segment segmentChecks fieldsOf readingChecks sound openSound freeSound lineOf effectOf opening splice sameKey recordOctets recordFrom age held after
-rejects-forgets-3 d = let z : _≡_ {A = ℕ} 0 1 = ap length (accounted forgets d [] tt m3 .exact (keyWith 5)) in omega arith
+unfolding computing
+rejects-forgets-3 d = let z : _≡_ {A = ℕ} 0 1 = ap length (arriving d (m3 ∷ []) .0 .agrees .exact (keyWith 5)) in omega arith
 
--- the second octet comes back as 0
+-- with the last of three, the second octet comes back as 0
 pub rejects-savesFirst : Demand2 savesFirst → ⊥
-unfolding second step segment segmentChecks fieldsOf readingChecks sound openSound freeSound lineOf effectOf opening splice sameKey recordOctets recordFrom age delivery sendingChecks sending segmentOctets parameterOctets
+unfolding computing
 rejects-savesFirst d =
-    let z : _≡_ {A = ℕ} 0 2 =
-    ap second (trip savesFirst d three three-sendable .later refl refl 2 (omega arith) _ (mine one one-long stop) one one-long .1 refl .handed) in
+    let z : _≡_ {A = ℕ} 0 2 = ap (nth 1) (trip3 d .later refl refl 2 (omega arith) _ (mine one one-long stop) one one-long .1 refl .handed) in
     omega arith
 
+-- with the last of two, the second octet comes back as 0
 pub rejects-savesFirst-3 : Demand3 savesFirst → ⊥
-unfolding second step segment segmentChecks fieldsOf readingChecks sound openSound freeSound lineOf effectOf opening splice sameKey recordOctets recordFrom age after covers delivery
-rejects-savesFirst-3 d = let z : _≡_ {A = ℕ} 0 0xBB = ap second (accounted2 savesFirst d m3 m4 .handed) in omega arith
+unfolding computing
+rejects-savesFirst-3 d = let z : _≡_ {A = ℕ} 0 0xBB = ap (nth 1) (arriving d (m3 ∷ m4 ∷ []) .1 .0 .handed) in omega arith
 
+-- an unsegmented parameter counts two segments
 pub rejects-invents : Demand3 invents → ⊥
-unfolding step segment segmentChecks fieldsOf readingChecks sound openSound freeSound lineOf effectOf opening splice sameKey recordOctets recordFrom age covers
-rejects-invents d = let z : _≡_ {A = ℕ} 2 1 = accounted invents d [] tt alone .fair .0 .0 in omega arith
+unfolding computing
+rejects-invents d = let z : _≡_ {A = ℕ} 2 1 = arriving d (alone ∷ []) .0 .fair .0 .0 in omega arith
 
+-- an unsegmented parameter counts two segments, in octet 9 of its record
 pub rejects-invents-2 : Demand2 invents → ⊥
-unfolding ninth step segment segmentChecks fieldsOf readingChecks sound openSound freeSound lineOf effectOf opening splice sameKey recordOctets recordFrom age delivery sendingChecks sending segmentOctets parameterOctets
-rejects-invents-2 d = let z : _≡_ {A = ℕ} 2 1 = ap ninth (trip invents d two two-sendable .alone refl .reported) in omega arith
+unfolding computing
+rejects-invents-2 d = let z : _≡_ {A = ℕ} 2 1 = ap (nth 8) (trip2 d .alone refl .reported) in omega arith
 
--- M1, the empty parameter
+-- an unsegmented parameter with one octet counts two
+pub rejects-inventsOctets : Demand3 inventsOctets → ⊥
+unfolding computing
+rejects-inventsOctets d = let z : _≡_ {A = ℕ} 2 1 = arriving d (alone ∷ []) .0 .fair .0 .1 in omega arith
+
+-- an unsegmented parameter with two octets counts three, in octet 11 of its record
+pub rejects-inventsOctets-2 : Demand2 inventsOctets → ⊥
+unfolding computing
+rejects-inventsOctets-2 d = let z : _≡_ {A = ℕ} 3 2 = ap (nth 10) (trip2 d .alone refl .reported) in omega arith
+
+-- M1, the empty parameter, is accepted where the rules refuse it with 5
 pub rejects-neverRefuses : Demand1 neverRefuses → ⊥
-unfolding step segment segmentChecks fieldsOf readingChecks sound openSound freeSound lineOf effectOf opening splice sameKey recordOctets recordFrom age
-rejects-neverRefuses d = let z : _≡_ {A = ℕ} 0 5 = d .every before (Arrives 9 [] one) .number in omega arith
+unfolding computing
+rejects-neverRefuses d = let z : _≡_ {A = ℕ} 0 5 = d .every before (toArrive 9 [] one) .number in omega arith
 
+-- an unsegmented parameter is neither covered nor held
 pub rejects-swallows : Demand3 swallows → ⊥
-unfolding step segment segmentChecks fieldsOf readingChecks sound openSound freeSound lineOf effectOf opening splice sameKey recordOctets recordFrom age held after
-rejects-swallows d = let z : _≡_ {A = ℕ} 0 1 = ap length (accounted swallows d [] tt alone .exact (keyWith 255)) in omega arith
+unfolding computing
+rejects-swallows d = let z : _≡_ {A = ℕ} 0 1 = ap length (arriving d (alone ∷ []) .0 .agrees .exact (keyWith 255)) in omega arith
 
+-- an unsegmented parameter has no record
 pub rejects-swallows-2 : Demand2 swallows → ⊥
-unfolding step segment segmentChecks fieldsOf readingChecks sound openSound freeSound lineOf effectOf opening splice sameKey recordOctets recordFrom age delivery sendingChecks sending segmentOctets parameterOctets
-rejects-swallows-2 d = let z : _≡_ {A = ℕ} 0 1 = trip swallows d two two-sendable .alone refl .records in omega arith
+unfolding computing
+rejects-swallows-2 d = let z : _≡_ {A = ℕ} 0 1 = trip2 d .alone refl .records in omega arith
 
+-- the first of two hands over the place's 2,048 octets
 pub rejects-handsOutEarly : Demand3 handsOutEarly → ⊥
-unfolding step segment segmentChecks fieldsOf readingChecks sound openSound freeSound lineOf effectOf opening splice sameKey recordOctets recordFrom age covers delivery
-rejects-handsOutEarly d = let z : _≡_ {A = ℕ} 2048 0 = ap length (accounted handsOutEarly d [] tt m3 .handed) in omega arith
+unfolding computing
+rejects-handsOutEarly d = let z : _≡_ {A = ℕ} 2048 0 = ap length (arriving d (m3 ∷ []) .0 .handed) in omega arith
 
--- its record covers nothing
+-- 4,096 octets of place 0 are asked for, and handed over
+pub rejects-handsOutMore : Demand2 handsOutMore → ⊥
+unfolding computing
+rejects-handsOutMore d = let z : _≡_ {A = ℕ} 4096 0 = ap length (d .delivers (Delivered (OfStore 0 4096)) [] (replicate storeLeast 0)) in omega arith
+
+-- a release with nothing open: its record covers nothing
 pub rejects-losesNothing : Demand3 losesNothing → ⊥
-unfolding step segment segmentChecks fieldsOf readingChecks sound openSound freeSound lineOf effectOf opening splice sameKey recordOctets recordFrom age release releaseChecks sweep covers
-rejects-losesNothing d = d .goes before registry 100 0 [] tt (Releases 9 all) (omega arith) .fair .0
+unfolding computing
+rejects-losesNothing d = calling d (toRelease 9 all ∷ []) (omega arith, tt) .0 .fair .0
 
 -- a first segment of association 9, and a release of 9 that makes no record of it
 pub rejects-releasesNothing : Release releasesNothing → ⊥
-unfolding step segment segmentChecks fieldsOf readingChecks sound openSound freeSound lineOf effectOf opening splice sameKey recordOctets recordFrom age release releaseChecks sweep after
+unfolding computing
 rejects-releasesNothing d =
-    absurd (true≢false (sym
-    (d .along before registry 100 0 (Arrives 9 m3 one ∷ []) (omega arith, tt)
-    .release 9 all refl (keyWith 5) .1 (refl, λ e. let z : _≡_ {A = ℕ} 1 0 = ap length e in omega arith))))
+    false≢true
+    (calling d (toArrive 9 m3 one ∷ toRelease 9 all ∷ []) (omega arith, (omega arith, tt)) .1 .0 .0 (keyWith 5)
+    .1 (refl, λ e. let z : _≡_ {A = ℕ} 1 0 = ap length e in omega arith))
 
--- after the second first segment the address 07 has a place open, and its record covered all that it had
+-- the first of three is sent, with a record that is of no deed
+pub rejects-recordsSending : Demand3 recordsSending → ⊥
+unfolding computing
+rejects-recordsSending d =
+    let z : _≡_ {A = ℕ} 1 0 = ap length (calling d (sendingOf three (sender 0 255) 0 ∷ []) (tt, tt) .0 .recorded) in
+    omega arith
+
+-- a release with nothing open leaves no context registered
+pub rejects-clearsRegistry : Demand3 clearsRegistry → ⊥
+unfolding computing
+rejects-clearsRegistry d = let z : _≡_ {A = ℕ} 0 1 = ap (ofFirst (λ (e : Entry). e .kind)) (calling d (toRelease 9 all ∷ []) (omega arith, tt) .0 .agrees .registry) in omega arith
+
+-- a release with nothing open leaves T at 1
+pub rejects-movesTimer : Demand3 movesTimer → ⊥
+unfolding computing
+rejects-movesTimer d = let z : _≡_ {A = ℕ} 1 100 = calling d (toRelease 9 all ∷ []) (omega arith, tt) .0 .agrees .timer in omega arith
+
+-- a release with nothing open, after an opening at time 7, leaves the clock at 0
+pub rejects-movesClock : Demand3 movesClock → ⊥
+unfolding computing
+rejects-movesClock d = let z : _≡_ {A = ℕ} 0 7 = calling-at d 7 (omega arith) (toRelease 9 all ∷ []) (omega arith, tt) .0 .agrees .clock in omega arith
+
+-- one octet to the destination 07: the parameter is an octet short
+pub rejects-leavesOut : Demand2 leavesOut → ⊥
+unfolding computing
+rejects-leavesOut d = let z : _≡_ {A = ℕ} 6 7 = ap (λ (a : Answer). a .length) (d .made addressed (sender 0 255) 0 (record { kind = refl; good = refl }) .answer) in omega arith
+
+-- the first of three: octet 2 is 85 and not 81
+pub rejects-setsSpare : Demand2 setsSpare → ⊥
+unfolding computing
+rejects-setsSpare d = let z : _≡_ {A = ℕ} 0x85 0x81 = ap (inArea 1) (d .made three (sender 0 255) 0 (record { kind = refl; good = refl }) .answer) in omega arith
+
+-- the first of three carries two octets
+pub rejects-cutsPast : Demand2 cutsPast → ⊥
+unfolding computing
+rejects-cutsPast d = let z : _≡_ {A = ℕ} 6 5 = ap (λ (a : Answer). a .length) (d .made three (sender 0 255) 0 (record { kind = refl; good = refl }) .answer) in omega arith
+
+-- the first of three, in an area of 5 octets that it fits: octet 1 is 0
+pub rejects-writesNonsense : Demand2 writesNonsense → ⊥
+unfolding computing
+rejects-writesNonsense d = let z : _≡_ {A = ℕ} 0 0x83 = ap (inArea 0) (d .made three (sender 0 5) 0 (record { kind = refl; good = refl }) .answer) in omega arith
+
+-- the first of three, cut at time 1, carries nothing
+pub rejects-cutsByClock : Demand2 cutsByClock → ⊥
+unfolding computing
+rejects-cutsByClock d = let z : _≡_ {A = ℕ} 4 5 = ap (λ (a : Answer). a .length) (d .made three (sender 1 255) 0 (record { kind = refl; good = refl }) .answer) in omega arith
+
+-- after first segments of 00 07 and of 07 a place is open for 07, and a record covered all that it had
 pub rejects-comparesNumbers : Demand3 comparesNumbers → ⊥
-unfolding step segment segmentChecks fieldsOf readingChecks sound openSound freeSound lineOf effectOf opening splice sameKey recordOctets recordFrom age after held
-rejects-comparesNumbers d = let z : _≡_ {A = ℕ} 1 0 = ap length (accounted2 comparesNumbers d from0007 from07 .exact key07) in omega arith
+unfolding computing
+rejects-comparesNumbers d = let z : _≡_ {A = ℕ} 1 0 = ap length (arriving d (from0007 ∷ from07 ∷ []) .1 .0 .agrees .exact key07) in omega arith
 
+-- the same after the address 07 00
 pub rejects-comparesFilled : Demand3 comparesFilled → ⊥
-unfolding step segment segmentChecks fieldsOf readingChecks sound openSound freeSound lineOf effectOf opening splice sameKey recordOctets recordFrom age after held
-rejects-comparesFilled d = let z : _≡_ {A = ℕ} 1 0 = ap length (accounted2 comparesFilled d from0700 from07 .exact key07) in omega arith
+unfolding computing
+rejects-comparesFilled d = let z : _≡_ {A = ℕ} 1 0 = ap length (arriving d (from0700 ∷ from07 ∷ []) .1 .0 .agrees .exact key07) in omega arith
 
+-- the second of three has no octets, and a record where the rules have none
+pub rejects-losesEmpty : Demand3 losesEmpty → ⊥
+unfolding computing
+rejects-losesEmpty d = let z : _≡_ {A = ℕ} 1 0 = ap length (arriving d (first3 ∷ empty2 ∷ []) .1 .0 .ruled .0 .ends) in omega arith
+
+-- a later segment with nothing open is lost with cause 2
+pub rejects-exchangesCauses : Demand3 exchangesCauses → ⊥
+unfolding computing
+rejects-exchangesCauses d = let z : _≡_ {A = ℕ} 2 1 = ap (ofFirst (λ (x : Ending). x .cause)) (arriving d (m4 ∷ []) .0 .ruled .0 .ends) in omega arith
+
+-- the first and the last of three are delivered
+pub rejects-joinsOverGap : Demand3 joinsOverGap → ⊥
+unfolding computing
+rejects-joinsOverGap d = let z : _≡_ {A = ℕ} 16 17 = ap (ofFirst (λ (x : Ending). x .kind)) (arriving d (first3 ∷ m4 ∷ []) .1 .0 .ruled .0 .ends) in omega arith
+
+-- a first segment of no octets is delivered by the clock
+pub rejects-callsItDelivered-clock : Demand3 callsItDelivered → ⊥
+unfolding computing
+rejects-callsItDelivered-clock d =
+    let z : _≡_ {A = ℕ} 16 17 = calling d (toArrive 9 empty1 one ∷ toTick 100 all ∷ []) (omega arith, (omega arith, tt)) .1 .0 .ruled .0 .0 .kind in
+    omega arith
+
+-- a first segment of no octets is delivered by a release
+pub rejects-callsItDelivered-release : Demand3 callsItDelivered → ⊥
+unfolding computing
+rejects-callsItDelivered-release d =
+    let z : _≡_ {A = ℕ} 16 17 = calling d (toArrive 9 empty1 one ∷ toRelease 9 all ∷ []) (omega arith, (omega arith, tt)) .1 .0 .ruled .0 .0 .kind in
+    omega arith
+
+-- a first segment of no octets is delivered by one of no octets that breaks its sequence
+pub rejects-callsItDelivered-segment : Demand3 callsItDelivered → ⊥
+unfolding computing
+rejects-callsItDelivered-segment d = let z : _≡_ {A = ℕ} 16 17 = ap (ofFirst (λ (x : Ending). x .kind)) (arriving d (empty1 ∷ empty3 ∷ []) .1 .0 .ruled .0 .ends) in omega arith
+
+-- a first segment twice: nothing is held of the second
 pub rejects-dropsRestart : Demand3 dropsRestart → ⊥
-unfolding step segment segmentChecks fieldsOf readingChecks sound openSound freeSound lineOf effectOf opening splice sameKey recordOctets recordFrom age after held
-rejects-dropsRestart d = let z : _≡_ {A = ℕ} 0 1 = ap length (accounted2 dropsRestart d m3 m3 .exact (keyWith 5)) in omega arith
+unfolding computing
+rejects-dropsRestart d = let z : _≡_ {A = ℕ} 0 1 = ap length (arriving d (m3 ∷ m3 ∷ []) .1 .0 .agrees .exact (keyWith 5)) in omega arith
 
+-- two segments are lost, and one is counted
 pub rejects-countsSaved : Demand3 countsSaved → ⊥
-unfolding step segment segmentChecks fieldsOf readingChecks sound openSound freeSound lineOf effectOf opening splice sameKey recordOctets recordFrom age after covers
-rejects-countsSaved d = let z : _≡_ {A = ℕ} 1 2 = accounted2 countsSaved d m3 breaking .fair .0 .0 in omega arith
+unfolding computing
+rejects-countsSaved d = let z : _≡_ {A = ℕ} 1 2 = arriving d (m3 ∷ breaking ∷ []) .1 .0 .fair .0 .0 in omega arith
 
+-- two segments are lost, the first with instruction 1, and 0 is told
 pub rejects-tellsLast : Demand3 tellsLast → ⊥
-unfolding step segment segmentChecks fieldsOf readingChecks sound openSound freeSound lineOf effectOf opening splice sameKey recordOctets recordFrom age after covers
-rejects-tellsLast d = let z : _≡_ {A = ℕ} 0 1 = accounted2 tellsLast d m3 breaking .fair .0 .2 in omega arith
+unfolding computing
+rejects-tellsLast d = let z : _≡_ {A = ℕ} 0 1 = arriving d (m3 ∷ breaking ∷ []) .1 .0 .fair .0 .2 in omega arith
 
 -- the first of three at time 0, the second at time 50: at time 100 it is not lost
 pub rejects-startsAnew : Timer startsAnew → ⊥
-unfolding step segment segmentChecks fieldsOf readingChecks sound openSound freeSound lineOf effectOf opening splice sameKey recordOctets recordFrom age clock clockChecks sweep after
+unfolding computing
 rejects-startsAnew d =
-    absurd (true≢false (sym
-    (d .along before registry 100 0 (omega arith) (Arrives 9 first3 one ∷ Ticks 50 all ∷ Arrives 9 second3 one ∷ []) (omega arith, (omega arith, (omega arith, tt)))
-    .clock 100 all (omega arith) refl (keyWith 5) .1 (omega arith))))
+    false≢true
+    (calling d (toArrive 9 first3 one ∷ toTick 50 all ∷ toArrive 9 second3 one ∷ toTick 100 all ∷ []) (omega arith, (omega arith, (omega arith, (omega arith, tt))))
+    .1 .1 .1 .0 .0 (keyWith 5) .1 (omega arith))
 
+-- the first of three at time 0, the second at time 50: it started at time 50
 pub rejects-startsAnew-3 : Demand3 startsAnew → ⊥
-unfolding startIn step segment segmentChecks fieldsOf readingChecks sound openSound freeSound lineOf effectOf opening splice sameKey recordOctets recordFrom age clock clockChecks sweep after held
+unfolding computing
 rejects-startsAnew-3 d =
-    let z : _≡_ {A = ℕ} 50 0 = ap startIn (accounted startsAnew d (Arrives 9 first3 one ∷ Ticks 50 all ∷ []) (omega arith, (omega arith, tt)) second3 .exact (keyWith 5)) in
+    let z : _≡_ {A = ℕ} 50 0 =
+    ap (ofFirst (λ (v : View). v .start))
+    (calling d (toArrive 9 first3 one ∷ toTick 50 all ∷ toArrive 9 second3 one ∷ []) (omega arith, (omega arith, (omega arith, tt)))
+    .1 .1 .0 .agrees .exact (keyWith 5)) in
     omega arith
 
 -- the first of three 6 ticks before the clock's turn: at time 5 its age is 11, and at time 100 it is 106 and not lost
 pub rejects-subtractsPlainly : Timer subtractsPlainly → ⊥
-unfolding step segment segmentChecks fieldsOf readingChecks sound openSound freeSound lineOf effectOf opening splice sameKey recordOctets recordFrom age clock clockChecks sweep after
+unfolding computing
 rejects-subtractsPlainly d =
-    absurd (true≢false (sym
-    (d .along before registry 100 4294967290 (omega arith) (Arrives 9 first3 one ∷ Ticks 5 all ∷ []) (omega arith, (omega arith, tt))
-    .clock 100 all (omega arith) refl (keyWith 5) .1 (omega arith))))
+    false≢true
+    (calling-at d 4294967290 (omega arith) (toArrive 9 first3 one ∷ toTick 5 all ∷ toTick 100 all ∷ []) (omega arith, (omega arith, (omega arith, tt)))
+    .1 .1 .0 .0 (keyWith 5) .1 (omega arith))
+
+-- the state and the call of the last are values of their types
+free-typed : OfPlace freePlace
+free-typed =
+    record {
+      size = refl;
+      address = all-replicate (Bits 8) 0 (omega arith) addressMost;
+      association = omega arith;
+      context = omega arith;
+      reference = omega arith;
+      length = omega arith;
+      octets = omega arith;
+      start = omega arith;
+      mark = omega arith;
+      instruction = omega arith;
+      remaining = omega arith;
+      segments = omega arith;
+    }
+
+abbrev entry : ℕ → ℕ → Entry
+entry context kind = record { context = record { 0 = context }; kind = kind }
+
+entry-typed : (context kind : ℕ) → Bits 16 context → Bits 8 kind → OfEntry (entry context kind)
+entry-typed context kind a b = record { context = a; kind = b }
+
+before-typed : OfState before
+unfolding opening
+before-typed =
+    record {
+      count = refl;
+      places = all-replicate OfPlace freePlace free-typed placeCount;
+      entries = refl;
+      registry = (
+        entry-typed 3 1 (omega arith) (omega arith),
+        (
+          entry-typed 4 2 (omega arith) (omega arith),
+          all-replicate OfEntry noEntry (entry-typed 0 0 (omega arith) (omega arith)) 6,
+        ),
+      );
+      timer = omega arith;
+      clock = omega arith;
+      store = all-replicate (Bits 8) 0 (omega arith) storeLeast;
+    }
+
+m3-typed : OfCall (toArrive 9 m3 one)
+m3-typed = (omega arith, (omega arith, (omega arith, (omega arith, (omega arith, (omega arith, tt))))), all-replicate (Bits 8) 0 (omega arith) recordLength)
+
+-- a first segment at a fresh table goes to place 15 and not to place 0
+pub rejects-takesHighest : Exactly takesHighest → ⊥
+unfolding computing
+rejects-takesHighest d =
+    let e : Saved 15 ≡ Saved 0 = ap (λ (a : Answer). a .decision) (d .every before (toArrive 9 m3 one) before-typed m3-typed .answer) in
+    let z : _≡_ {A = ℕ} 15 0 = cc in
+    omega arith

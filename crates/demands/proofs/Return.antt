@@ -1,5 +1,5 @@
 -- DEMAND 2 of the machine that the rules are: what was cut comes back.
-use Prim.Native.Nat.{ℕ, zero, suc, _+_, _-_, _*_, _≤_, _<_, _^_}
+use Prim.Native.Nat.{ℕ, zero, suc, _+_, _-_, _*_, _≤_, _<_}
 use mathlib.Core.Path.{_≡_, refl, sym, ap, _∙_, subst}
 use mathlib.Core.Bool.{Bool, true, false, not, _&&_, _||_}
 use mathlib.Core.List.{List, [], _∷_}
@@ -10,24 +10,22 @@ use lib.Dec.{eqb, leb}
 use lib.ListN.{length, getD, set, take, drop, length-append, length-take, length-drop}
 use lib.Seq.{take-all}
 use Rattle.octets.specs.Splice.{splice}
-use Rattle.octets.proofs.Splice.{splice-length, splice-back}
+use Rattle.octets.proofs.Splice.{splice-length}
 use Rattle.rules.specs.General.{if_then_else_}
-use Rattle.rules.specs.Numbers.{storeLeast, placeStart, addressMost, parameterMost}
-use Rattle.rules.specs.Refusals.{accepted}
+use Rattle.rules.specs.Numbers.{placeStart, addressMost}
 use Rattle.rules.specs.Registry.{kindOf}
 use Rattle.rules.specs.Layout.{isAlone, fieldsOf}
 use Rattle.rules.specs.Records.{recordLength, recordOctets, recordsOctets, delivered}
 use Rattle.rules.specs.Places.{noPlace, freePlace, holds, isFree, placeOf, lowestFree, isAt, placeAt}
-use Rattle.rules.specs.Soundness.{sound}
 use Rattle.rules.specs.Receiving.{lineOf, isStart, effectOf, saveAt, begun, longer, recordWith, receptionOf, Reception, Effect, segment}
 use Rattle.rules.specs.Delivery.{delivery, partOf}
-use Rattle.rules.specs.Sending.{Sending as Sending′, headerLength, countOf, firstCarries, laterCarries, stretchOf, headingFor, carried, segmentOctets, sendingChecks, sending}
+use Rattle.rules.specs.Sending.{firstCarries, laterCarries, stretchOf, headingFor, carried, sending}
 use Rattle.rules.specs.Calls.{State, Call, Opens, Arrives, Ticks, Releases, Sends, step}
+use Rattle.rules.specs.declared.Entry.{Entry}
+use Rattle.rules.specs.declared.Key.{Key}
 use Rattle.rules.specs.declared.Place.{Place}
-use Rattle.rules.specs.declared.Table.{Table}
 use Rattle.rules.specs.declared.Heading.{Heading}
 use Rattle.rules.specs.declared.Fields.{Fields}
-use Rattle.rules.specs.declared.Request.{Request}
 use Rattle.rules.specs.declared.Found.{Found}
 use Rattle.rules.specs.declared.Found.the-variants.{At, Nothing}
 use Rattle.rules.specs.declared.Line.{Line}
@@ -39,33 +37,15 @@ use Rattle.rules.proofs.Keys.{same-self}
 use Rattle.octets.proofs.Number.{empty}
 use Rattle.rules.proofs.Cutting.{sendable, stretches, stretches-step, cut-joins, alone-is, within-room}
 use Rattle.rules.proofs.ReadBack.{ReadsBack, read-back}
-use Rattle.demands.specs.Machine.{ours, InRange, isOpening, Typed}
-use Rattle.demands.specs.Demand2.{Sending, numbered, kindIn, header, countIn, segmentedIn, Sendable, sentBy, IsSent, keyIn, recordIn, Spares, isSaved, Meanwhile, stop, mine, other, Keeps, Returns, Begins, RoundTrip, Demand2}
+use Rattle.demands.specs.Machine.{ours, InRange, isOpening}
+use Rattle.demands.specs.Seen.{seenBy}
+use Rattle.demands.specs.Demand2.{Sending, numbered, header, countIn, segmentedIn, segmentOf, Sender, sendingOf, Sendable, IsSent, keyIn, recordIn}
+use Rattle.demands.specs.Demand2.{Spares, arrivalOf, Meanwhile, stop, mine, other, isSaved, Keeps, Begins, Returns, Ready, HasRoom, RoundTrip, Demand2}
 use Rattle.demands.proofs.Spared.{Kept, clash, first-at}
+use Rattle.demands.proofs.Typed.{typed-kept}
+use Rattle.demands.proofs.Sound.{kept as sound-kept}
 use Rattle.demands.proofs.Sparing.{spared, registry-kept, store-kept}
 use Rattle.demands.proofs.Arriving.{line-alone, line-new, line-later, arrives, joined-back, mine-kept, filled-length, one-reported, place-delivers}
-
--- what sending leaves at the front of its area is the segment's octets
-sending-front : (t : Table) (q : Request) (o d whole area : List ℕ) → accepted (sendingChecks t q o d whole area) ≡ true
-    → take (sending t q o d whole area .answer .length) (sending t q o d whole area .area) ≡ segmentOctets (kindOf (t .registry) (q .context .0)) q o d whole
-unfolding sending
-sending-front t q o d whole area ok =
-    let fits = sendable t q o d whole area ok .fits in
-    rw ok (splice-back area 0 (segmentOctets (kindOf (t .registry) (q .context .0)) q o d whole) (omega arith))
-
--- an accepted sending, whole
-sending-done : (t : Table) (q : Request) (o d whole area : List ℕ) → accepted (sendingChecks t q o d whole area) ≡ true
-    → sending t q o d whole area
-    ≡ record {
-      answer = record {
-        refusal = 0;
-        count = countOf (headerLength (kindOf (t .registry) (q .context .0)) (q .context .0) o d) q (length whole);
-        length = length (segmentOctets (kindOf (t .registry) (q .context .0)) q o d whole);
-      };
-      area = splice area 0 (segmentOctets (kindOf (t .registry) (q .context .0)) q o d whole);
-    }
-unfolding sending
-sending-done t q o d whole area ok = rw ok
 
 -- a part of a parameter that goes to its end
 part-tail : (s : List ℕ) (start : ℕ) (i : List ℕ) → drop start s ≡ i → partOf s start (length i) ≡ i
@@ -81,399 +61,397 @@ part-tail s start i e = go (leb (start + length i) (length s)) refl
         let m = n in
         sym (empty i (omega arith))
 
-not-opening : (c : Call) → InRange c → isOpening c ≡ false
-not-opening (Opens registry timer time) range = absurd range
-not-opening (Arrives association s report) range = refl
-not-opening (Ticks time report) range = refl
-not-opening (Releases association report) range = refl
-not-opening (Sends q o d whole area) range = refl
-
-module _ (typed-kept : (st : State) (c : Call) → Typed (st .table) → InRange c → Typed (step st c .state .table))
-    (sound-kept : (st : State) (c : Call) → sound (st .table) ≡ true → isOpening c ≡ false → sound (step st c .state .table) ≡ true) where
-  module _ (x : Sending) (ok : Sendable x) (areas : ℕ → List ℕ) (wide : (k : ℕ) → parameterMost ≤ length (areas k)) (carrier : x .association < 2 ^ 16) where
-    abbrev q : ℕ → Request
-    q k = numbered (x .request) k
-
-    some : 1 ≤ countIn x
-    some = go (segmentedIn x) refl
-      where
-        go : (c : Bool) → segmentedIn x ≡ c → 1 ≤ countIn x
-        go true e = simp e (omega arith)
-        go false e = simp e (omega arith)
-
-    abbrev a : ℕ
-    a = firstCarries (header x) (x .request)
-
-    abbrev b : ℕ
-    b = laterCarries (header x) (x .request)
-
-    abbrev upTo : ℕ → List ℕ
-    upTo j = stretches a b (x .whole) j
-
-    abbrev part : ℕ → List ℕ
-    part k = stretchOf a b (x .whole) k
-
-    abbrev octets : ℕ → List ℕ
-    octets k = segmentOctets (kindIn x) (q k) (x .origin) (x .destination) (x .whole)
-
-    abbrev heading : ℕ → Heading
-    heading k = headingFor (kindIn x) (header x) (q k) (length (x .whole))
-
-    abbrev info : ℕ → List ℕ
-    info k = carried (header x) (q k) (x .whole)
-
-    sent-is : (k : ℕ) → k < countIn x → sentBy ours x areas k ≡ octets k
-    unfolding step
-    sent-is k l = sending-front (x .table) (q k) (x .origin) (x .destination) (x .whole) (areas k) (ok k l (areas k) (wide k))
-
-    -- each is made, and the rest of its area stays
-    made-is : (k : ℕ) → k < countIn x → IsSent ours x areas k
-    unfolding step
-    made-is k l =
-        let done = sending-done (x .table) (q k) (x .origin) (x .destination) (x .whole) (areas k) (ok k l (areas k) (wide k)) in
-        let fits = within-room (x .table) (q k) (x .origin) (x .destination) (x .whole) (areas k) (ok k l (areas k) (wide k)) .parameter in
-        record {
-          accepted = ap (λ (o : Sending′). o .answer .refusal) done;
-          count = ap (λ (o : Sending′). o .answer .count) done;
-          short = let e = ap (λ (o : Sending′). o .answer .length) done in omega (arith, e, fits);
-          rest = ap (λ (o : Sending′). o .area) done ∙ rw (sent-is k l);
-        }
-
-    -- a state at which its segments may arrive
-    record Ready (st : State) : Type 0 where
-      good : sound (st .table) ≡ true
-      typed : Typed (st .table)
-      kind : kindOf (st .table .registry) (x .request .context .0) ≡ kindIn x
-      long : storeLeast ≤ length (st .store)
-
-    ready-kept : (st : State) (c : Call) → InRange c → Ready st → Ready (step st c .state)
-    ready-kept st c range r =
-        record {
-          good = sound-kept st c (r .good) (not-opening c range);
-          typed = typed-kept st c (r .typed) range;
-          kind = rw (registry-kept st c range) (r .kind);
-          long = rw (store-kept st c range) (r .long);
-        }
-
-    reads : (st : State) → Ready st → (k : ℕ) → k < countIn x
-        → ReadsBack (st .table .registry) (octets k) (heading k) (x .origin) (x .destination) (info k)
-    reads st r k l = read-back (x .table) (q k) (x .origin) (x .destination) (x .whole) (areas k) (ok k l (areas k) (wide k)) (st .table .registry) (r .kind)
-
-    upTo-most : (j : ℕ) → length (upTo j) ≤ 2048
-    upTo-most zero = omega arith
-    upTo-most (suc j) =
-        let most = sendable (x .table) (q 0) (x .origin) (x .destination) (x .whole) (areas 0) (ok 0 some (areas 0) (wide 0)) .size in
-        let e : upTo (suc j) ≡ take (a + j * b) (x .whole) = rw add-one at (stretches-step a b (x .whole) j) in
-        rw (e, length-take) (omega arith)
-
-    ten : countIn x ≤ 10
-    ten = within-room (x .table) (q 0) (x .origin) (x .destination) (x .whole) (areas 0) (ok 0 some (areas 0) (wide 0)) .count
-
-    origin-most : length (x .origin) ≤ 20
-    origin-most = sendable (x .table) (q 0) (x .origin) (x .destination) (x .whole) (areas 0) (ok 0 some (areas 0) (wide 0)) .origin
-
-    -- after j segments: the key's place, what it says, and the octets saved there
-    record Progress (j : ℕ) (st : State) : Type 0 where
-      place : ℕ
-      held : Place
-      kept : Kept (keyIn x) place held (upTo j) (st .table .places) (st .store)
-      remaining : held .remaining .0 ≡ countIn x - j
-      segments : held .segments ≡ j
-      octets : held .octets ≡ length (upTo j)
-      instruction : held .instruction ≡ x .request .instruction
-
-    progress-kept : (j : ℕ) (st : State) (c : Call) → Ready st → InRange c → Spares st (keyIn x) c → Progress j st → Progress j (step st c .state)
-    progress-kept j st c r range spares p =
-        record {
-          place = p .place;
-          held = p .held;
-          kept = spared (keyIn x) (p .place) (p .held) (upTo j) (upTo-most j) st c (r .good) (r .typed) range spares (p .kept);
-          remaining = p .remaining;
-          segments = p .segments;
-          octets = p .octets;
-          instruction = p .instruction;
-        }
-
-    module _ (st : State) (r : Ready st) (report : List ℕ) (room : recordLength ≤ length report) (k : ℕ) (l : k < countIn x) where
-      abbrev ps : List Place
-      ps = st .table .places
-
-      abbrev sent : List ℕ
-      sent = sentBy ours x areas k
-
-      abbrev came : Reception
-      came = segment (st .table) (st .store) report (x .association) sent
-
-      abbrev call : Call
-      call = Arrives (x .association) sent report
-
-      abbrev f : Fields
-      f =
-          record {
-            heading = heading k;
-            origin = fieldsOf (st .table .registry) (octets k) .origin;
-            length = fieldsOf (st .table .registry) (octets k) .length;
-            information = fieldsOf (st .table .registry) (octets k) .information;
-          }
-
-      abbrev effectBy : Line → Found → Place → Found → List ℕ → Effect
-      effectBy line place p free i = effectOf line (st .table) (st .store) (keyIn x) f i place p free
-
-      came-is : (place free : Found) (p : Place) (i : List ℕ) → placeOf (keyIn x) ps ≡ place → lowestFree ps ≡ free → placeAt ps place ≡ p → info k ≡ i → (line : Line)
-          → lineOf (isAt place) (p .remaining .0) (p .octets) (heading k) (length i) ≡ line
-          → (isStart line && not (isAt free)) ≡ false
-          → came ≡ receptionOf (st .table) report (effectBy line place p free i)
-      came-is place free p i e1 e2 e3 e4 line e5 e6 =
-          ap (λ (s : List ℕ). segment (st .table) (st .store) report (x .association) s) (sent-is k l)
-          ∙ arrives (st .table) (st .store) report (x .association) (octets k) (heading k) (x .origin) (x .destination) (info k) (reads st r k l) (r .good) (r .long) room
-          place free e1 e2 line (rw (e3, e4) e5) e6
-          ∙ (λ n. receptionOf (st .table) report (effectBy line place (e3 n) free (e4 n)))
-
-      state-is : (o : Reception) → came ≡ o → step st call .state ≡ record { table = o .answer .table; store = o .store }
-      unfolding step
-      state-is o e = ap (λ (o : Reception). record { table = o .answer .table; store = o .store }) e
-
-      keeps-by : (o : Reception) → came ≡ o → o .answer .refusal ≡ 0 → isSaved (o .answer .decision) ≡ true → o .answer .records ≡ 0
-          → Keeps (step st call .answer)
-      unfolding step
-      keeps-by o e e1 e2 e3 = record { accepted = rw e e1; saved = rw e e2; records = rw e e3 }
-
-      returns-by : (o : Reception) → came ≡ o → o .answer .refusal ≡ 0 → o .answer .records ≡ 1 → take recordLength (o .report) ≡ recordOctets (recordIn x)
-          → delivery (o .answer .decision) sent (o .store) ≡ x .whole → Returns ours x st sent report
-      unfolding step
-      returns-by o e e1 e2 e3 e4 =
-          record {
-            accepted = ap (λ (o : Reception). o .answer .refusal) e ∙ e1;
-            records = ap (λ (o : Reception). o .answer .records) e ∙ e2;
-            reported = ap (λ (o : Reception). take recordLength (o .report)) e ∙ e3;
-            handed = ap (λ (o : Reception). delivery (o .answer .decision) sent (o .store)) e ∙ e4;
-          }
-
-      key-address : length (keyIn x .address) ≡ addressMost
-      key-address = filled-length (x .origin) origin-most
-
-      ended-by : (instruction segments n : ℕ) → instruction ≡ x .request .instruction → segments ≡ countIn x → n ≡ length (x .whole)
-          → take recordLength (splice report 0 (recordsOctets (recordWith delivered 0 (keyIn x) instruction segments n ∷ []))) ≡ recordOctets (recordIn x)
-      ended-by instruction segments n e1 e2 e3 = rw (e1, e2, e3) (one-reported (recordIn x) report key-address room)
-
-      -- the only one
-      module _ (whole-one : segmentedIn x ≡ false) where
-        returns-alone : Returns ours x st sent report
-        unfolding effectOf delivery
-        returns-alone =
-            returns-by _
-            (came-is (placeOf (keyIn x) ps) (lowestFree ps) (placeAt ps (placeOf (keyIn x) ps)) (x .whole) refl refl refl carries Unsegmented
-            (line-alone _ _ _ (heading k) _ lone) refl)
-            refl refl (ended-by _ 1 _ refl count refl) delivers
-          where
-            count : 1 ≡ countIn x
-            count = rw whole-one
-
-            carries : info k ≡ x .whole
-            carries = rw whole-one
-
-            lone : isAlone (heading k .new) (heading k .remaining .0) ≡ true
-            lone = alone-is (x .table) (q k) (x .origin) (x .destination) (x .whole) (areas k) (ok k l (areas k) (wide k)) ∙ rw whole-one
-
-            delivers : partOf sent (f .information) (length (x .whole)) ≡ x .whole
-            delivers = rw (sent-is k l) (part-tail (octets k) (f .information) (x .whole) (reads st r k l .information ∙ carries))
-
-      module _ (several : segmentedIn x ≡ true) where
-        carries : info k ≡ part k
-        carries = rw several
-
-        grows : length (upTo (suc k)) ≡ length (upTo k) + length (part k)
-        grows = length-append (upTo k) (part k)
-
-        -- a later one
-        module _ (p : Progress k st) (one : 1 ≤ k) where
-          there : placeOf (keyIn x) ps ≡ At (p .place)
-          there = first-at (holds (keyIn x)) ps (p .place) (p .kept .first)
-
-          inside : p .place < 16
-          inside =
-              let h = p .kept .first .0 in
-              let n = r .typed .count in
-              omega arith
-
-          fits : p .held .octets + length (part k) ≤ 2048
-          fits =
-              let most = upTo-most (suc k) in
-              let g = grows in
-              let n = p .octets in
-              omega arith
-
-          line : lineOf true (p .held .remaining .0) (p .held .octets) (heading k) (length (part k)) ≡ (if eqb (countIn x - 1 - k) 0 then Final else Next)
-          line =
-              let most = ten in
-              let before = p .remaining in
-              line-later (p .held .remaining .0) (p .held .octets) (heading k) _ (omega arith) (ne-eqb k 0 (omega arith)) (omega arith) fits
-
-          stores : placeStart (p .place) + length (upTo k) + length (part k) ≤ length (st .store)
-          stores =
-              let n = p .octets in
-              let i = inside in
-              let m = fits in
-              let w = r .long in
-              omega arith
-
-          module _ (more : suc k < countIn x) where
-            new : Place
-            new = longer (p .held) (keyIn x) (heading k) (length (part k))
-
-            went : came ≡ receptionOf (st .table) report (effectBy Next (At (p .place)) (p .held) (lowestFree ps) (part k))
-            went =
-                came-is (At (p .place)) (lowestFree ps) (p .held) (part k) there refl (p .kept .there) carries Next
-                (line ∙ rw (ne-eqb (countIn x - 1 - k) 0 (omega arith))) refl
-
-            keeps : Keeps (step st call .answer)
-            unfolding effectOf
-            keeps = keeps-by _ went refl refl refl
-
-            goes-on : Progress (suc k) (step st call .state)
-            unfolding effectOf new
-            goes-on =
-                subst (λ (u : State). Progress (suc k) u) (sym (state-is _ went))
-                (record {
-                  place = p .place;
-                  held = new;
-                  kept = mine-kept (keyIn x) ps (p .place) new (st .store) (p .held .octets) (upTo k) (part k) (p .kept .first .0) (p .kept .first .2)
-                      (same-self (keyIn x)) (p .octets) (p .kept .stretch) stores;
-                  remaining = omega arith;
-                  segments = omega (arith, p .segments);
-                  octets = omega (arith, grows, p .octets);
-                  instruction = p .instruction;
-                })
-
-          module _ (last : suc k ≡ countIn x) where
-            ended : came ≡ receptionOf (st .table) report (effectBy Final (At (p .place)) (p .held) (lowestFree ps) (part k))
-            ended =
-                came-is (At (p .place)) (lowestFree ps) (p .held) (part k) there refl (p .kept .there) carries Final
-                (line ∙ rw (eq-eqb (countIn x - 1 - k) 0 (omega arith))) refl
-
-            whole-is : upTo (suc k) ≡ x .whole
-            whole-is = ap upTo last ∙ cut-joins (x .table) (q k) (x .origin) (x .destination) (x .whole) (areas k) (ok k l (areas k) (wide k)) several
-
-            octets-is : p .held .octets + length (part k) ≡ length (x .whole)
-            octets-is = omega (arith, grows, p .octets, ap length whole-is)
-
-            delivers : delivery (Delivered (OfStore (p .place) (p .held .octets + length (part k)))) sent
-                (saveAt (st .store) (p .place) (p .held .octets) (part k)) ≡ x .whole
-            unfolding delivery
-            delivers =
-                let n : p .held .octets + length (part k) ≡ length (upTo (suc k)) = omega (arith, grows, p .octets) in
-                place-delivers (saveAt (st .store) (p .place) (p .held .octets) (part k)) (p .place) _ inside fits
-                (rw splice-length (r .long))
-                ∙ rw n (joined-back (st .store) (p .place) (p .held .octets) (upTo k) (part k) (p .octets) (p .kept .stretch) stores)
-                ∙ whole-is
-
-            returns : Returns ours x st sent report
-            unfolding effectOf
-            returns = returns-by _ ended refl refl (ended-by _ _ _ (p .instruction) (omega (arith, p .segments)) octets-is) delivers
-
-    -- the first of several
-    module _ (st : State) (r : Ready st) (report : List ℕ) (room : recordLength ≤ length report) (several : segmentedIn x ≡ true) where
-      abbrev places : List Place
-      places = st .table .places
-
-      abbrev begins : Call
-      begins = Arrives (x .association) (sentBy ours x areas 0) report
-
-      begun-line : (c : Bool) (before saved : ℕ) → lineOf c before saved (heading 0) (length (part 0)) ≡ (if c then Restart else Start)
-      begun-line c before saved =
-          line-new c before saved (heading 0) _
-          (alone-is (x .table) (q 0) (x .origin) (x .destination) (x .whole) (areas 0) (ok 0 some (areas 0) (wide 0)) ∙ rw several) (omega (arith, ten)) refl
-
-      start : Place
-      start = begun (st .table) (keyIn x) (heading 0) (length (part 0))
-
-      -- its place, wherever it is
-      placed : (m : ℕ) → m < length places → ((j : ℕ) → j < m → holds (keyIn x) (getD places j noPlace) ≡ false)
-          → Kept (keyIn x) m start (upTo 1) (set places m start) (saveAt (st .store) m 0 (part 0))
-      unfolding start
-      placed m inside before =
-          let n = r .typed .count in
-          let w = r .long in
-          let most = upTo-most 1 in
-          mine-kept (keyIn x) places m start (st .store) 0 [] (part 0) inside before (same-self (keyIn x)) refl refl (omega arith)
-
-      begun-progress : (m : ℕ) (u : State) → Kept (keyIn x) m start (upTo 1) (u .table .places) (u .store) → Progress 1 u
-      unfolding start
-      begun-progress m u kept =
-          record { place = m; held = start; kept = kept; remaining = omega arith; segments = refl; octets = refl; instruction = refl }
-
-      record Begun (place : Found) : Type 0 where
-        answer : Begins (step st begins .answer) place (isAt place)
-        progress : Progress 1 (step st begins .state)
-
-      restarted : (m : ℕ) → placeOf (keyIn x) places ≡ At m → IsFirst (holds (keyIn x)) places (At m) → Begun (At m)
-      unfolding step effectOf start
-      restarted m e h =
-          let went = came-is st r report room 0 some (At m) (lowestFree places) (getD places m noPlace) (part 0) e refl refl (carries st r report room 0 some several) Restart
-          (begun-line true _ _) refl in
-          record {
-            answer = record {
-              accepted = ap (λ (o : Reception). o .answer .refusal) went;
-              lost = ap (λ (o : Reception). o .answer .decision) went;
-              records = ap (λ (o : Reception). o .answer .records) went;
-            };
-            progress = subst (λ (u : State). Progress 1 u) (sym (state-is st r report room 0 some _ went)) (begun-progress m _ (placed m (h .0) (h .2)));
-          }
-
-      started : (m : ℕ) → placeOf (keyIn x) places ≡ Nothing → lowestFree places ≡ At m → IsFirst (holds (keyIn x)) places Nothing → IsFirst isFree places (At m)
-          → Begun Nothing
-      unfolding effectOf start
-      started m e e′ h g =
-          let went = came-is st r report room 0 some Nothing (At m) freePlace (part 0) e e′ refl (carries st r report room 0 some several) Start (begun-line false _ _) refl in
-          record {
-            answer = keeps-by st r report room 0 some _ went refl refl refl;
-            progress = subst (λ (u : State). Progress 1 u) (sym (state-is st r report room 0 some _ went))
-                (begun-progress m _ (placed m (g .0) (λ j l. h j (omega (arith, g .0)))));
-          }
-
-      begun-first : (isAt (placeOf (keyIn x) places) || isAt (lowestFree places)) ≡ true → Begun (placeOf (keyIn x) places)
-      begun-first = go (placeOf (keyIn x) places) refl (place-is (keyIn x) places) (lowestFree places) refl (free-is places)
-        where
-          go : (place : Found) → placeOf (keyIn x) places ≡ place → IsFirst (holds (keyIn x)) places place → (free : Found) → lowestFree places ≡ free
-              → IsFirst isFree places free → (isAt place || isAt free) ≡ true → Begun place
-          go (At m) e h free e′ g some = restarted m e h
-          go Nothing e h (At m) e′ g some = started m e e′ h g
-          go Nothing e h Nothing e′ g some = absurd (clash some refl)
-
-    -- between the segments
-    ahead : {st st′ : State} {i j : ℕ} → Meanwhile ours x areas st i st′ j → i ≤ j
-    ahead stop = omega arith
-    ahead (mine report room rest) = let l = ahead rest in omega arith
-    ahead (other c range spares rest) = ahead rest
-
-    along : {st st′ : State} {i j : ℕ} → segmentedIn x ≡ true → Meanwhile ours x areas st i st′ j → 1 ≤ i → j < countIn x → Ready st → Progress i st
-        → Ready st′ × Progress j st′
-    along several stop one under r p = (r, p)
-    along several (mine {st} {st′} {i} {j} report room rest) one under r p =
-        let l = ahead rest in
-        along several rest (omega arith) under (ready-kept st (Arrives (x .association) (sentBy ours x areas i) report) carrier r)
-        (goes-on st r report room i (omega arith) several p one (omega arith))
-    along several (other {st} {st′} {i} {j} c range spares rest) one under r p =
-        along several rest one under (ready-kept st c range r) (progress-kept i st c r range spares p)
-
-    round-trip : (st : State) → Ready st → (report : List ℕ) → recordLength ≤ length report → RoundTrip ours x st areas report
-    round-trip st r report room =
-        record {
-          made = made-is;
-          alone = λ whole-one. returns-alone st r report room 0 some whole-one;
-          first = λ several some. begun-first st r report room several some .answer;
-          later = λ several some j under st′ rest again wide-enough.
-              let l = ahead rest in
-              let there = along several rest (omega arith) under (ready-kept st (Arrives (x .association) (sentBy ours x areas 0) report) carrier r)
-              (begun-first st r report room several some .progress) in (
-                λ more. keeps st′ (there .0) again wide-enough j under several (there .1) (omega arith) more,
-                λ last. returns st′ (there .0) again wide-enough j under several (there .1) (omega arith) last,
-              );
-        }
-
-  pub demand-2 : Demand2 ours
-  demand-2 =
+not-opening : (st : State) (k : Key) (c : Call) → Spares st k c → isOpening c ≡ false
+not-opening st k (Opens x) spares = absurd spares
+not-opening st k (Arrives x) spares = refl
+not-opening st k (Ticks x) spares = refl
+not-opening st k (Releases x) spares = refl
+not-opening st k (Sends x) spares = refl
+
+-- What one segment that can be sent says of all of them
+
+abbrev firstIn : Sending → ℕ
+firstIn x = firstCarries (header x) (x .request)
+
+abbrev laterIn : Sending → ℕ
+laterIn x = laterCarries (header x) (x .request)
+
+abbrev headingIn : Sending → ℕ → Heading
+headingIn x k = headingFor (x .kind) (header x) (numbered (x .request) k) (length (x .whole))
+
+abbrev informationIn : Sending → ℕ → List ℕ
+informationIn x k = carried (header x) (numbered (x .request) k) (x .whole)
+
+record Facts (x : Sending) (k : ℕ) : Type 0 where
+  size : length (x .whole) ≤ 2048
+  origin : length (x .origin) ≤ 20
+  ten : countIn x ≤ 10
+  joins : segmentedIn x ≡ true → stretches (firstIn x) (laterIn x) (x .whole) (countIn x) ≡ x .whole
+  alone : isAlone (headingIn x k .new) (headingIn x k .remaining .0) ≡ not (segmentedIn x)
+  reads : (r : List Entry) → kindOf r (x .request .context .0) ≡ x .kind
+      → ReadsBack r (segmentOf x k) (headingIn x k) (x .origin) (x .destination) (informationIn x k)
+
+module _ (x : Sending) (a : Sender) (k : ℕ) (can : Sendable x a k) where
+  -- the rules speak of the kind that the table gives the context, demand 2 of the sending's own
+  abbrev by : ℕ → Sending
+  by kind =
+      record { request = x .request; origin = x .origin; destination = x .destination; whole = x .whole; kind = kind; association = x .association }
+
+  facts : Facts x k
+  facts =
+      let all = sendable _ _ _ _ _ _ (can .good) in
+      subst (λ (kind : ℕ). Facts (by kind) k) (can .kind)
+      (record {
+        size = all .size;
+        origin = all .origin;
+        ten = within-room _ _ _ _ _ _ (can .good) .count;
+        joins = cut-joins _ _ _ _ _ _ (can .good);
+        alone = alone-is _ _ _ _ _ _ (can .good);
+        reads = read-back _ _ _ _ _ _ (can .good);
+      })
+
+  made-is : IsSent x a k (seenBy ours (a .state) (sendingOf x a k))
+  unfolding step sending delivery
+  made-is =
+      let ok = can .good in
+      subst (λ (kind : ℕ). IsSent (by kind) a k (seenBy ours (a .state) (sendingOf x a k))) (can .kind)
+      (record { answer = rw ok; state = refl; handed = refl })
+
+ready-kept : (x : Sending) (st : State) (c : Call) → isOpening c ≡ false → InRange c → Ready x st → Ready x (step st c .state)
+ready-kept x st c o range r =
+    record {
+      sound = sound-kept st c o (r .sound);
+      typed = typed-kept st c (r .typed) range;
+      kind = rw (registry-kept st c o) (r .kind);
+      store = rw (store-kept st c) (r .store);
+      carrier = r .carrier;
+    }
+
+module _ (x : Sending) (ok : (k : ℕ) → k < countIn x → Facts x k) where
+  some : 1 ≤ countIn x
+  some = go (segmentedIn x) refl
+    where
+      go : (c : Bool) → segmentedIn x ≡ c → 1 ≤ countIn x
+      go true e = simp e (omega arith)
+      go false e = simp e (omega arith)
+
+  abbrev upTo : ℕ → List ℕ
+  upTo j = stretches (firstIn x) (laterIn x) (x .whole) j
+
+  abbrev part : ℕ → List ℕ
+  part k = stretchOf (firstIn x) (laterIn x) (x .whole) k
+
+  upTo-most : (j : ℕ) → length (upTo j) ≤ 2048
+  upTo-most zero = omega arith
+  upTo-most (suc j) =
+      let most = ok 0 some .size in
+      let e : upTo (suc j) ≡ take (firstIn x + j * laterIn x) (x .whole) = rw add-one at (stretches-step (firstIn x) (laterIn x) (x .whole) j) in
+      rw (e, length-take) (omega arith)
+
+  -- after j segments: the key's place, what it says, and the octets saved there
+  record Progress (j : ℕ) (st : State) : Type 0 where
+    place : ℕ
+    held : Place
+    kept : Kept (keyIn x) place held (upTo j) (st .table .places) (st .store)
+    remaining : held .remaining .0 ≡ countIn x - j
+    segments : held .segments ≡ j
+    octets : held .octets ≡ length (upTo j)
+    instruction : held .instruction ≡ x .request .instruction
+
+  progress-kept : (j : ℕ) (st : State) (c : Call) → Ready x st → Spares st (keyIn x) c → Progress j st → Progress j (step st c .state)
+  progress-kept j st c r spares p =
       record {
-        back = λ x ok st good typed kind long areas wide report room carrier.
-            round-trip x ok areas wide carrier st (record { good = good; typed = typed; kind = kind; long = long }) report room;
+        place = p .place;
+        held = p .held;
+        kept = spared (keyIn x) (p .place) (p .held) (upTo j) (upTo-most j) st c (r .sound) (r .typed) spares (p .kept);
+        remaining = p .remaining;
+        segments = p .segments;
+        octets = p .octets;
+        instruction = p .instruction;
       }
+
+  module _ (st : State) (r : Ready x st) (report : List ℕ) (room : recordLength ≤ length report) (k : ℕ) (l : k < countIn x) where
+    abbrev ps : List Place
+    ps = st .table .places
+
+    abbrev sent : List ℕ
+    sent = segmentOf x k
+
+    abbrev came : Reception
+    came = segment (st .table) (st .store) report (x .association) sent
+
+    abbrev call : Call
+    call = arrivalOf x k report
+
+    abbrev f : Fields
+    f =
+        record {
+          heading = headingIn x k;
+          origin = fieldsOf (st .table .registry) sent .origin;
+          length = fieldsOf (st .table .registry) sent .length;
+          information = fieldsOf (st .table .registry) sent .information;
+        }
+
+    abbrev effectBy : Line → Found → Place → Found → List ℕ → Effect
+    effectBy line place p free i = effectOf line (st .table) (st .store) (keyIn x) f i place p free
+
+    reads : ReadsBack (st .table .registry) sent (headingIn x k) (x .origin) (x .destination) (informationIn x k)
+    reads = ok k l .reads (st .table .registry) (r .kind)
+
+    came-is : (place free : Found) (p : Place) (i : List ℕ) → placeOf (keyIn x) ps ≡ place → lowestFree ps ≡ free → placeAt ps place ≡ p → informationIn x k ≡ i → (line : Line)
+        → lineOf (isAt place) (p .remaining .0) (p .octets) (headingIn x k) (length i) ≡ line
+        → (isStart line && not (isAt free)) ≡ false
+        → came ≡ receptionOf (st .table) report (effectBy line place p free i)
+    came-is place free p i e1 e2 e3 e4 line e5 e6 =
+        arrives (st .table) (st .store) report (x .association) sent (headingIn x k) (x .origin) (x .destination) (informationIn x k) reads (r .sound) (r .store) room
+        place free e1 e2 line (rw (e3, e4) e5) e6
+        ∙ (λ n. receptionOf (st .table) report (effectBy line place (e3 n) free (e4 n)))
+
+    state-is : (o : Reception) → came ≡ o → step st call .state ≡ record { table = o .answer .table; store = o .store }
+    unfolding step
+    state-is o e = ap (λ (o : Reception). record { table = o .answer .table; store = o .store }) e
+
+    keeps-by : (o : Reception) → came ≡ o → o .answer .refusal ≡ 0 → isSaved (o .answer .decision) ≡ true → o .answer .records ≡ 0
+        → Keeps (step st call .answer)
+    unfolding step
+    keeps-by o e e1 e2 e3 = record { accepted = rw e e1; saved = rw e e2; records = rw e e3 }
+
+    returns-by : (o : Reception) → came ≡ o → o .answer .refusal ≡ 0 → o .answer .records ≡ 1 → take recordLength (o .report) ≡ recordOctets (recordIn x)
+        → delivery (o .answer .decision) sent (o .store) ≡ x .whole → Returns x (seenBy ours st call)
+    unfolding step
+    returns-by o e e1 e2 e3 e4 =
+        record {
+          accepted = ap (λ (o : Reception). o .answer .refusal) e ∙ e1;
+          records = ap (λ (o : Reception). o .answer .records) e ∙ e2;
+          reported = ap (λ (o : Reception). take recordLength (o .report)) e ∙ e3;
+          handed = ap (λ (o : Reception). delivery (o .answer .decision) sent (o .store)) e ∙ e4;
+        }
+
+    key-address : length (keyIn x .address) ≡ addressMost
+    key-address = filled-length (x .origin) (ok k l .origin)
+
+    ended-by : (instruction segments n : ℕ) → instruction ≡ x .request .instruction → segments ≡ countIn x → n ≡ length (x .whole)
+        → take recordLength (splice report 0 (recordsOctets (recordWith delivered 0 (keyIn x) instruction segments n ∷ []))) ≡ recordOctets (recordIn x)
+    ended-by instruction segments n e1 e2 e3 = rw (e1, e2, e3) (one-reported (recordIn x) report key-address room)
+
+    -- the only one
+    module _ (whole-one : segmentedIn x ≡ false) where
+      returns-alone : Returns x (seenBy ours st call)
+      unfolding effectOf delivery
+      returns-alone =
+          returns-by _
+          (came-is (placeOf (keyIn x) ps) (lowestFree ps) (placeAt ps (placeOf (keyIn x) ps)) (x .whole) refl refl refl carries Unsegmented
+          (line-alone _ _ _ (headingIn x k) _ lone) refl)
+          refl refl (ended-by _ 1 _ refl count refl) delivers
+        where
+          count : 1 ≡ countIn x
+          count = rw whole-one
+
+          carries : informationIn x k ≡ x .whole
+          carries = rw whole-one
+
+          lone : isAlone (headingIn x k .new) (headingIn x k .remaining .0) ≡ true
+          lone = ok k l .alone ∙ rw whole-one
+
+          delivers : partOf sent (f .information) (length (x .whole)) ≡ x .whole
+          delivers = part-tail sent (f .information) (x .whole) (reads .information ∙ carries)
+
+    module _ (several : segmentedIn x ≡ true) where
+      carries : informationIn x k ≡ part k
+      carries = rw several
+
+      grows : length (upTo (suc k)) ≡ length (upTo k) + length (part k)
+      grows = length-append (upTo k) (part k)
+
+      -- a later one
+      module _ (p : Progress k st) (one : 1 ≤ k) where
+        there : placeOf (keyIn x) ps ≡ At (p .place)
+        there = first-at (holds (keyIn x)) ps (p .place) (p .kept .first)
+
+        inside : p .place < 16
+        inside =
+            let h = p .kept .first .0 in
+            let n = r .typed .count in
+            omega arith
+
+        fits : p .held .octets + length (part k) ≤ 2048
+        fits =
+            let most = upTo-most (suc k) in
+            let g = grows in
+            let n = p .octets in
+            omega arith
+
+        line : lineOf true (p .held .remaining .0) (p .held .octets) (headingIn x k) (length (part k)) ≡ (if eqb (countIn x - 1 - k) 0 then Final else Next)
+        line =
+            let most = ok k l .ten in
+            let before = p .remaining in
+            line-later (p .held .remaining .0) (p .held .octets) (headingIn x k) _ (omega arith) (ne-eqb k 0 (omega arith)) (omega arith) fits
+
+        stores : placeStart (p .place) + length (upTo k) + length (part k) ≤ length (st .store)
+        stores =
+            let n = p .octets in
+            let i = inside in
+            let m = fits in
+            let w = r .store in
+            omega arith
+
+        module _ (more : suc k < countIn x) where
+          new : Place
+          new = longer (p .held) (keyIn x) (headingIn x k) (length (part k))
+
+          went : came ≡ receptionOf (st .table) report (effectBy Next (At (p .place)) (p .held) (lowestFree ps) (part k))
+          went =
+              came-is (At (p .place)) (lowestFree ps) (p .held) (part k) there refl (p .kept .there) carries Next
+              (line ∙ rw (ne-eqb (countIn x - 1 - k) 0 (omega arith))) refl
+
+          keeps : Keeps (step st call .answer)
+          unfolding effectOf
+          keeps = keeps-by _ went refl refl refl
+
+          goes-on : Progress (suc k) (step st call .state)
+          unfolding effectOf new
+          goes-on =
+              subst (λ (u : State). Progress (suc k) u) (sym (state-is _ went))
+              (record {
+                place = p .place;
+                held = new;
+                kept = mine-kept (keyIn x) ps (p .place) new (st .store) (p .held .octets) (upTo k) (part k) (p .kept .first .0) (p .kept .first .2)
+                    (same-self (keyIn x)) (p .octets) (p .kept .stretch) stores;
+                remaining = omega arith;
+                segments = omega (arith, p .segments);
+                octets = omega (arith, grows, p .octets);
+                instruction = p .instruction;
+              })
+
+        module _ (last : suc k ≡ countIn x) where
+          ended : came ≡ receptionOf (st .table) report (effectBy Final (At (p .place)) (p .held) (lowestFree ps) (part k))
+          ended =
+              came-is (At (p .place)) (lowestFree ps) (p .held) (part k) there refl (p .kept .there) carries Final
+              (line ∙ rw (eq-eqb (countIn x - 1 - k) 0 (omega arith))) refl
+
+          whole-is : upTo (suc k) ≡ x .whole
+          whole-is = ap upTo last ∙ ok k l .joins several
+
+          octets-is : p .held .octets + length (part k) ≡ length (x .whole)
+          octets-is = omega (arith, grows, p .octets, ap length whole-is)
+
+          delivers : delivery (Delivered (OfStore (p .place) (p .held .octets + length (part k)))) sent
+              (saveAt (st .store) (p .place) (p .held .octets) (part k)) ≡ x .whole
+          unfolding delivery
+          delivers =
+              let n : p .held .octets + length (part k) ≡ length (upTo (suc k)) = omega (arith, grows, p .octets) in
+              place-delivers (saveAt (st .store) (p .place) (p .held .octets) (part k)) (p .place) _ inside fits
+              (rw splice-length (r .store))
+              ∙ rw n (joined-back (st .store) (p .place) (p .held .octets) (upTo k) (part k) (p .octets) (p .kept .stretch) stores)
+              ∙ whole-is
+
+          returns : Returns x (seenBy ours st call)
+          unfolding effectOf
+          returns = returns-by _ ended refl refl (ended-by _ _ _ (p .instruction) (omega (arith, p .segments)) octets-is) delivers
+
+  -- the first of several
+  module _ (st : State) (r : Ready x st) (report : List ℕ) (room : recordLength ≤ length report) (several : segmentedIn x ≡ true) where
+    abbrev places : List Place
+    places = st .table .places
+
+    abbrev begins : Call
+    begins = arrivalOf x 0 report
+
+    begun-line : (c : Bool) (before saved : ℕ) → lineOf c before saved (headingIn x 0) (length (part 0)) ≡ (if c then Restart else Start)
+    begun-line c before saved =
+        line-new c before saved (headingIn x 0) _
+        (ok 0 some .alone ∙ rw several) (omega (arith, ok 0 some .ten)) refl
+
+    start : Place
+    start = begun (st .table) (keyIn x) (headingIn x 0) (length (part 0))
+
+    -- its place, wherever it is
+    placed : (m : ℕ) → m < length places → ((j : ℕ) → j < m → holds (keyIn x) (getD places j noPlace) ≡ false)
+        → Kept (keyIn x) m start (upTo 1) (set places m start) (saveAt (st .store) m 0 (part 0))
+    unfolding start
+    placed m inside before =
+        let n = r .typed .count in
+        let w = r .store in
+        let most = upTo-most 1 in
+        mine-kept (keyIn x) places m start (st .store) 0 [] (part 0) inside before (same-self (keyIn x)) refl refl (omega arith)
+
+    begun-progress : (m : ℕ) (u : State) → Kept (keyIn x) m start (upTo 1) (u .table .places) (u .store) → Progress 1 u
+    unfolding start
+    begun-progress m u kept =
+        record { place = m; held = start; kept = kept; remaining = omega arith; segments = refl; octets = refl; instruction = refl }
+
+    record Begun (place : Found) : Type 0 where
+      answer : Begins (step st begins .answer) place (isAt place)
+      progress : Progress 1 (step st begins .state)
+
+    restarted : (m : ℕ) → placeOf (keyIn x) places ≡ At m → IsFirst (holds (keyIn x)) places (At m) → Begun (At m)
+    unfolding step effectOf start
+    restarted m e h =
+        let went = came-is st r report room 0 some (At m) (lowestFree places) (getD places m noPlace) (part 0) e refl refl (carries st r report room 0 some several) Restart
+        (begun-line true _ _) refl in
+        record {
+          answer = record {
+            accepted = ap (λ (o : Reception). o .answer .refusal) went;
+            lost = ap (λ (o : Reception). o .answer .decision) went;
+            records = ap (λ (o : Reception). o .answer .records) went;
+          };
+          progress = subst (λ (u : State). Progress 1 u) (sym (state-is st r report room 0 some _ went)) (begun-progress m _ (placed m (h .0) (h .2)));
+        }
+
+    started : (m : ℕ) → placeOf (keyIn x) places ≡ Nothing → lowestFree places ≡ At m → IsFirst (holds (keyIn x)) places Nothing → IsFirst isFree places (At m)
+        → Begun Nothing
+    unfolding effectOf start
+    started m e e′ h g =
+        let went = came-is st r report room 0 some Nothing (At m) freePlace (part 0) e e′ refl (carries st r report room 0 some several) Start (begun-line false _ _) refl in
+        record {
+          answer = keeps-by st r report room 0 some _ went refl refl refl;
+          progress = subst (λ (u : State). Progress 1 u) (sym (state-is st r report room 0 some _ went))
+              (begun-progress m _ (placed m (g .0) (λ j l. h j (omega (arith, g .0)))));
+        }
+
+    begun-first : HasRoom x st → Begun (placeOf (keyIn x) places)
+    begun-first = go (placeOf (keyIn x) places) refl (place-is (keyIn x) places) (lowestFree places) refl (free-is places)
+      where
+        go : (place : Found) → placeOf (keyIn x) places ≡ place → IsFirst (holds (keyIn x)) places place → (free : Found) → lowestFree places ≡ free
+            → IsFirst isFree places free → (isAt place || isAt free) ≡ true → Begun place
+        go (At m) e h free e′ g some = restarted m e h
+        go Nothing e h (At m) e′ g some = started m e e′ h g
+        go Nothing e h Nothing e′ g some = absurd (clash some refl)
+
+  -- between the segments
+  ahead : {st st′ : State} {i j : ℕ} → Meanwhile ours x st i st′ j → i ≤ j
+  ahead stop = omega arith
+  ahead (mine report room rest) = let l = ahead rest in omega arith
+  ahead (other c range spares rest) = ahead rest
+
+  along : {st st′ : State} {i j : ℕ} → segmentedIn x ≡ true → Meanwhile ours x st i st′ j → 1 ≤ i → j < countIn x → Ready x st → Progress i st
+      → Ready x st′ × Progress j st′
+  along several stop one under r p = (r, p)
+  along several (mine {st} {st′} {i} {j} report room rest) one under r p =
+      let l = ahead rest in
+      along several rest (omega arith) under (ready-kept x st (arrivalOf x i report) refl (r .carrier) r)
+      (goes-on st r report room i (omega arith) several p one (omega arith))
+  along several (other {st} {st′} {i} {j} c range spares rest) one under r p =
+      along several rest one under (ready-kept x st c (not-opening st (keyIn x) c spares) range r) (progress-kept i st c r spares p)
+
+  round-trip : (st : State) → Ready x st → (report : List ℕ) → recordLength ≤ length report → RoundTrip ours x st report
+  round-trip st r report room =
+      record {
+        alone = λ whole-one. returns-alone st r report room 0 some whole-one;
+        first = λ several some. begun-first st r report room several some .answer;
+        later = λ several some j under st′ rest again wide-enough.
+            let l = ahead rest in
+            let there = along several rest (omega arith) under (ready-kept x st (arrivalOf x 0 report) refl (r .carrier) r)
+            (begun-first st r report room several some .progress) in (
+              λ more. keeps st′ (there .0) again wide-enough j under several (there .1) (omega arith) more,
+              λ last. returns st′ (there .0) again wide-enough j under several (there .1) (omega arith) last,
+            );
+      }
+
+pub demand-2 : Demand2 ours
+demand-2 =
+    record {
+      made = made-is;
+      back = λ x from can st r report room. round-trip x (λ k l. facts x (from k) k (can k l)) st r report room;
+      delivers = λ d s store. refl;
+    }

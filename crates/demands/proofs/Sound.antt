@@ -18,7 +18,7 @@ use Rattle.rules.specs.Opening.{emptyTable, openingChecks}
 use Rattle.rules.specs.Receiving.{keyOf, informationOf, openPlace, begun, lineOf, effectOf, segmentChecks, Reception}
 use Rattle.rules.specs.Sweep.{freedBy, isDue, sweep, Sweeping, clockChecks, releaseChecks}
 use Rattle.rules.specs.Sending.{sendingChecks}
-use Rattle.rules.specs.Calls.{State, Call, Opens, Arrives, Ticks, Releases, Sends, step}
+use Rattle.rules.specs.Calls.{State, Call, Opens, Arrives, Ticks, Releases, Sends, Opening, step}
 use Rattle.rules.specs.declared.Entry.{Entry}
 use Rattle.rules.specs.declared.Key.{Key}
 use Rattle.rules.specs.declared.Place.{Place}
@@ -38,9 +38,12 @@ use Rattle.rules.proofs.Answers.{opened-by, segment-by, clock-by, release-by}
 use Rattle.rules.proofs.Lines.{line-cases}
 use Rattle.rules.proofs.Apart.{every-set, two-at, two-set, apart-new, apart-own, apart-free, every-map, freed-two}
 use Rattle.rules.proofs.Soundness.{SoundTable, sound-parts, sound-of, OpenPlace, open-parts, open-of, free-sound, filled-zero}
-use Rattle.demands.specs.Machine.{ours, checksOf, isOpening, All}
-use Rattle.demands.specs.Soundness.{later, Sound}
-use Rattle.demands.proofs.Refused.{number, others, others-least}
+use Rattle.demands.specs.Machine.{ours, checksOf, isOpening}
+use Rattle.demands.specs.Seen.{seenBy}
+use Rattle.demands.specs.History.{Told, deedsOf, after}
+use Rattle.demands.specs.Soundness.{LeavesSound, NotBy1, Sound}
+use Rattle.demands.proofs.Refused.{number, accepted-zero, zero-accepted, others, others-least}
+use Rattle.demands.proofs.Running.{meets, still-opened}
 
 -- a place as a sound table has it
 abbrev SoundIn : Table → Place → Type 0
@@ -265,36 +268,32 @@ empty-sound registry timer time e =
       apart = refl;
     })
 
-opened : (st : State) (registry : List ℕ) (timer time : ℕ) → accepted (openingChecks registry timer) ≡ true
-    → sound (step st (Opens registry timer time) .state .table) ≡ true
+opened : (st : State) (x : Opening) → accepted (openingChecks (x .registry) (x .timer)) ≡ true → sound (step st (Opens x) .state .table) ≡ true
 unfolding step
-opened st registry timer time ok =
-    opened-by (λ (o : Opened). sound (o .table) ≡ true) registry timer time (empty-sound registry timer time) (λ e. cc)
+opened st x ok =
+    opened-by (λ (o : Opened). sound (o .table) ≡ true) (x .registry) (x .timer) (x .time) (empty-sound (x .registry) (x .timer) (x .time)) (λ e. cc)
 
-kept : (st : State) (c : Call) → sound (st .table) ≡ true → isOpening c ≡ false → sound (step st c .state .table) ≡ true
+pub kept : (st : State) (c : Call) → isOpening c ≡ false → sound (st .table) ≡ true → sound (step st c .state .table) ≡ true
 unfolding step
-kept st (Opens registry timer time) s h = cc
-kept st (Arrives association x report) s h =
+kept st (Opens x) h s = cc
+kept st (Arrives x) h s =
     let t : Table = st .table in
     let ok = sound-parts t s in
-    let key : Key = keyOf association x (fieldsOf (t .registry) x) in
-    segment-by (λ (o : Reception). sound (o .answer .table) ≡ true) t (st .store) report association x
+    let key : Key = keyOf (x .association) (x .parameter) (fieldsOf (t .registry) (x .parameter)) in
+    segment-by (λ (o : Reception). sound (o .answer .table) ≡ true) t (st .store) (x .report) (x .association) (x .parameter)
     (λ e.
-    let reading = arrived t (st .store) report association x e .reading in
-    let good = segment-good t ok association x reading (st .store) (placeOf key (t .places)) (place-is key (t .places)) (lowestFree (t .places)) in
+    let reading = arrived t (st .store) (x .report) (x .association) (x .parameter) e .reading in
+    let good = segment-good t ok (x .association) (x .parameter) reading (st .store) (placeOf key (t .places)) (place-is key (t .places)) (lowestFree (t .places)) in
     sound-of _ (record { timer = ok .timer; registry = ok .registry; places = good .0; apart = good .1 }))
     (λ e. s)
-kept st (Ticks time report) s h =
-    clock-by (λ (o : Sweeping). sound (o .answer .table) ≡ true) (st .table) report time
-    (λ e. sweep-sound _ 6 time (st .table) report (sound-parts (st .table) s) (young (st .table .registry) (st .table .timer) (st .table .clock) time)) (λ e. s)
-kept st (Releases association report) s h =
-    release-by (λ (o : Sweeping). sound (o .answer .table) ≡ true) (st .table) report association
-    (λ e. sweep-sound _ 7 (st .table .clock) (st .table) report (sound-parts (st .table) s) (λ p d a. a)) (λ e. s)
-kept st (Sends q o d whole area) s h = s
-
-later-kept : (st : State) (cs : List Call) → sound (st .table) ≡ true → All (λ (c : Call). isOpening c ≡ false) cs → sound (later ours st cs .table) ≡ true
-later-kept st [] s h = s
-later-kept st (c ∷ cs) s h = later-kept (step st c .state) cs (kept st c s (h .0)) (h .1)
+kept st (Ticks x) h s =
+    clock-by (λ (o : Sweeping). sound (o .answer .table) ≡ true) (st .table) (x .report) (x .time)
+    (λ e. sweep-sound _ 6 (x .time) (st .table) (x .report) (sound-parts (st .table) s) (young (st .table .registry) (st .table .timer) (st .table .clock) (x .time)))
+    (λ e. s)
+kept st (Releases x) h s =
+    release-by (λ (o : Sweeping). sound (o .answer .table) ≡ true) (st .table) (x .report) (x .association)
+    (λ e. sweep-sound _ 7 (st .table .clock) (st .table) (x .report) (sound-parts (st .table) s) (λ p d a. a)) (λ e. s)
+kept st (Sends x) h s = s
 
 -- a sound table passes check 1, and no other has that number
 over-1 : (table : Bool) (cs : List Check) → Least 2 cs → table ≡ true → first (1 when not table ∷ cs) ≡ 1 → ⊥
@@ -310,18 +309,49 @@ unfolding segmentChecks clockChecks releaseChecks sendingChecks
 passes-1 st c o s e = go c o (others-least st c) e
   where
     go : (c : Call) → isOpening c ≡ false → Least 2 (others (checksOf st c)) → first (checksOf st c) ≡ 1 → ⊥
-    go (Opens registry timer time) o h e = let z : _≡_ {A = ℕ} 0 1 = cc in omega arith
-    go (Arrives association x report) o h e = over-1 (sound (st .table)) (others (checksOf st (Arrives association x report))) h s e
-    go (Ticks time report) o h e = over-1 (sound (st .table)) (others (checksOf st (Ticks time report))) h s e
-    go (Releases association report) o h e = over-1 (sound (st .table)) (others (checksOf st (Releases association report))) h s e
-    go (Sends q o d whole area) z h e = over-1 (sound (st .table)) (others (checksOf st (Sends q o d whole area))) h s e
+    go (Opens x) o h e = let z : _≡_ {A = ℕ} 0 1 = cc in omega arith
+    go (Arrives x) o h e = over-1 (sound (st .table)) (others (checksOf st (Arrives x))) h s e
+    go (Ticks x) o h e = over-1 (sound (st .table)) (others (checksOf st (Ticks x))) h s e
+    go (Releases x) o h e = over-1 (sound (st .table)) (others (checksOf st (Releases x))) h s e
+    go (Sends x) o h e = over-1 (sound (st .table)) (others (checksOf st (Sends x))) h s e
+
+leaves-sound : (st : State) (c : Call) → LeavesSound (seenBy ours st c)
+leaves-sound st c = record { opened = go c; kept = kept st c }
+  where
+    go : (c : Call) → isOpening c ≡ true → accepted (checksOf st c) ≡ true → sound (step st c .state .table) ≡ true
+    go (Opens x) o ok = opened st x ok
+    go (Arrives x) o ok = cc
+    go (Ticks x) o ok = cc
+    go (Releases x) o ok = cc
+    go (Sends x) o ok = cc
+
+-- where the last opening was accepted the table is sound
+abbrev SoundOnce : State → Told → Type 0
+SoundOnce st h = h .opened ≡ true → sound (st .table) ≡ true
+
+-- an opening has no check with the number 1
+opening-over-1 : (st : State) (o : Opening) → step st (Opens o) .answer .refusal ≡ 1 → ⊥
+opening-over-1 st o e = go (accepted (checksOf st (Opens o))) refl
+  where
+    least : Least 2 (checksOf st (Opens o))
+    least = (omega arith, (omega arith, tt))
+
+    go : (b : Bool) → accepted (checksOf st (Opens o)) ≡ b → ⊥
+    go true a = omega (arith, accepted-zero st (Opens o) a)
+    go false a = omega (arith, number st (Opens o), first-least 2 (checksOf st (Opens o)) least a)
 
 pub soundness : Sound ours
+unfolding after deedsOf
 soundness =
     record {
-      opened = opened;
-      kept = kept;
-      never1 = λ st registry timer time ok cs all c o e.
-          let st′ : State = later ours (step st (Opens registry timer time) .state) cs in
-          passes-1 st′ c o (later-kept (step st (Opens registry timer time) .state) cs (opened st registry timer time ok) all) (sym (number st′ c) ∙ e);
+      every = leaves-sound;
+      never1 = meets NotBy1 SoundOnce
+          (λ st h o r. (
+            λ e. opening-over-1 st o,
+            λ e. opened st o (zero-accepted st (Opens o) (eqb-true (step st (Opens o) .answer .refusal) 0 e)),
+          ))
+          (λ st h s c r o. (
+            λ e z. passes-1 st c o (s e) (sym (number st c) ∙ z),
+            λ e. kept st c o (s (sym (still-opened h (seenBy ours st c) o) ∙ e)),
+          ));
     }

@@ -23,7 +23,7 @@ use Rattle.rules.specs.declared.Record.{Record}
 use Rattle.rules.proofs.Cutting.{kind-known}
 use Rattle.rules.proofs.Held.{open-is, places-sound}
 use Rattle.rules.proofs.Records.{Fits, AllFit, records-back}
-use Rattle.demands.specs.Machine.{All, InRange, TypedPlace, Typed}
+use Rattle.demands.specs.Machine.{isOpening, All, TypedPlace, Typed}
 use Rattle.demands.specs.Demand2.{Spares}
 use Rattle.demands.proofs.Spared.{Kept, segment-kept, segment-refused, segment-registry, segment-length, sweep-kept}
 
@@ -63,7 +63,7 @@ module _ (test : Place → Bool) (opens : (p : Place) → test p ≡ true → is
       go false l = omega arith
 
   module _ (t : Table) (good : sound t ≡ true) (typed : Typed t) (time : ℕ) (report : List ℕ) where
-    sweep-back : reportLeast ≤ length report
+    pub sweep-back : reportLeast ≤ length report
         → recordsFrom (sweep test cause time t report .answer .records) (sweep test cause time t report .report) ≡ map (lossOf cause) (those test (t .places))
     unfolding sweep
     sweep-back h =
@@ -104,38 +104,37 @@ unfolding releaseChecks
 release-room t report e = ltb-false (length report) reportLeast (not-true _ ((simp and-eq-true-iff at e) .1 .0))
 
 -- the place and what was saved there
-pub spared : (k : Key) (i : ℕ) (p : Place) (saved : List ℕ) → length saved ≤ 2048 → (st : State) (c : Call) → sound (st .table) ≡ true → Typed (st .table) → InRange c
+pub spared : (k : Key) (i : ℕ) (p : Place) (saved : List ℕ) → length saved ≤ 2048 → (st : State) (c : Call) → sound (st .table) ≡ true → Typed (st .table)
     → Spares st k c → Kept k i p saved (st .table .places) (st .store) → Kept k i p saved (step st c .state .table .places) (step st c .state .store)
 unfolding step clock release
-spared k i p saved size st (Opens registry timer time) good typed range spares kept = absurd spares
-spared k i p saved size st (Arrives association s report) good typed range spares kept =
-    go (accepted (segmentChecks (st .table) (st .store) report association s)) refl
+spared k i p saved size st (Opens x) good typed spares kept = absurd spares
+spared k i p saved size st (Arrives x) good typed spares kept = go (accepted (segmentChecks (st .table) (st .store) (x .report) (x .association) (x .parameter))) refl
   where
-    go : (b : Bool) → accepted (segmentChecks (st .table) (st .store) report association s) ≡ b
-        → Kept k i p saved (step st (Arrives association s report) .state .table .places) (step st (Arrives association s report) .state .store)
-    go true e = segment-kept (st .table) (st .store) report association s k i p saved size kept (typed .count) e (spares e)
-    go false e = rw (segment-refused (st .table) (st .store) report association s e) kept
-spared k i p saved size st (Ticks time report) good typed range spares kept =
-    judged-kept (isDue time (st .table .timer)) (λ q e. and-eq-true-iff (isOpen q) _ .0 e .0) 6 (st .table) good typed time report k i p saved (st .store) refl
-    (clockChecks (st .table) report time) (clock-room (st .table) report time) kept spares
-spared k i p saved size st (Releases association report) good typed range spares kept =
-    judged-kept (isOf association) (λ q e. and-eq-true-iff (isOpen q) _ .0 e .0) 7 (st .table) good typed (st .table .clock) report k i p saved (st .store) refl
-    (releaseChecks (st .table) report) (release-room (st .table) report) kept spares
-spared k i p saved size st (Sends q o d whole area) good typed range spares kept = kept
+    go : (b : Bool) → accepted (segmentChecks (st .table) (st .store) (x .report) (x .association) (x .parameter)) ≡ b
+        → Kept k i p saved (step st (Arrives x) .state .table .places) (step st (Arrives x) .state .store)
+    go true e = segment-kept (st .table) (st .store) (x .report) (x .association) (x .parameter) k i p saved size kept (typed .count) e (spares e)
+    go false e = rw (segment-refused (st .table) (st .store) (x .report) (x .association) (x .parameter) e) kept
+spared k i p saved size st (Ticks x) good typed spares kept =
+    judged-kept (isDue (x .time) (st .table .timer)) (λ q e. and-eq-true-iff (isOpen q) _ .0 e .0) 6 (st .table) good typed (x .time) (x .report) k i p saved (st .store) refl
+    (clockChecks (st .table) (x .report) (x .time)) (clock-room (st .table) (x .report) (x .time)) kept spares
+spared k i p saved size st (Releases x) good typed spares kept =
+    judged-kept (isOf (x .association)) (λ q e. and-eq-true-iff (isOpen q) _ .0 e .0) 7 (st .table) good typed (st .table .clock) (x .report) k i p saved (st .store) refl
+    (releaseChecks (st .table) (x .report)) (release-room (st .table) (x .report)) kept spares
+spared k i p saved size st (Sends x) good typed spares kept = kept
 
 -- the registry and the store's length
-pub registry-kept : (st : State) (c : Call) → InRange c → step st c .state .table .registry ≡ st .table .registry
+pub registry-kept : (st : State) (c : Call) → isOpening c ≡ false → step st c .state .table .registry ≡ st .table .registry
 unfolding step clock release
-registry-kept st (Opens registry timer time) range = absurd range
-registry-kept st (Arrives association s report) range = segment-registry (st .table) (st .store) report association s
-registry-kept st (Ticks time report) range = swept-registry _ 6 time (st .table) report _ (accepted (clockChecks (st .table) report time))
-registry-kept st (Releases association report) range = swept-registry _ 7 (st .table .clock) (st .table) report _ (accepted (releaseChecks (st .table) report))
-registry-kept st (Sends q o d whole area) range = refl
+registry-kept st (Opens x) o = cc
+registry-kept st (Arrives x) o = segment-registry (st .table) (st .store) (x .report) (x .association) (x .parameter)
+registry-kept st (Ticks x) o = swept-registry _ 6 (x .time) (st .table) (x .report) _ (accepted (clockChecks (st .table) (x .report) (x .time)))
+registry-kept st (Releases x) o = swept-registry _ 7 (st .table .clock) (st .table) (x .report) _ (accepted (releaseChecks (st .table) (x .report)))
+registry-kept st (Sends x) o = refl
 
-pub store-kept : (st : State) (c : Call) → InRange c → length (step st c .state .store) ≡ length (st .store)
+pub store-kept : (st : State) (c : Call) → length (step st c .state .store) ≡ length (st .store)
 unfolding step
-store-kept st (Opens registry timer time) range = absurd range
-store-kept st (Arrives association s report) range = segment-length (st .table) (st .store) report association s
-store-kept st (Ticks time report) range = refl
-store-kept st (Releases association report) range = refl
-store-kept st (Sends q o d whole area) range = refl
+store-kept st (Opens x) = refl
+store-kept st (Arrives x) = segment-length (st .table) (st .store) (x .report) (x .association) (x .parameter)
+store-kept st (Ticks x) = refl
+store-kept st (Releases x) = refl
+store-kept st (Sends x) = refl

@@ -3,46 +3,41 @@ use Prim.Native.Nat.{ℕ, suc, _+_, _-_, _%_, _≤_, _<_, _^_}
 use mathlib.Core.Path.{_≡_, refl, sym, ap, ap₂, _∙_}
 use mathlib.Core.Logic.{_↔_}
 use mathlib.Core.Bool.{Bool, true, false, _&&_, _||_, and-eq-true-iff}
-use mathlib.Core.List.{List, [], _∷_, _++_, map, append-nil}
+use mathlib.Core.List.{List, [], _∷_, _++_, map}
 use native.Mathlib.Omega.{arith}
 use borrow.Author.Tests.{eqb-true, ne-eqb, leb-true, le-leb, ltb-true}
 use lib.Dec.{eqb, leb, ltb}
-use lib.ListN.{length, take, drop}
-use lib.Seq.{take-at}
-use Rattle.octets.specs.Splice.{splice}
-use Rattle.octets.proofs.Splice.{splice-is}
+use lib.ListN.{length}
 use Rattle.rules.specs.General.{if_then_else_, every, those}
-use Rattle.rules.specs.Numbers.{age, addressMost}
-use Rattle.rules.specs.Refusals.{accepted, first}
-use Rattle.rules.specs.Records.{recordLength, recordOctets, recordFrom, recordsOctets, recordsFrom}
-use Rattle.rules.specs.Places.{sameKey, isOpen, holds, placeOf, placeAt, isAt, lowestFree}
-use Rattle.rules.specs.Layout.{fieldsOf}
+use Rattle.rules.specs.Numbers.{age}
+use Rattle.rules.specs.Refusals.{accepted}
+use Rattle.rules.specs.Records.{lost}
+use Rattle.rules.specs.Places.{sameKey, isOpen, holds}
 use Rattle.rules.specs.Soundness.{placeSound, openSound, sound}
-use Rattle.rules.specs.Receiving.{keyOf, informationOf, effectOf, lineOf, lineAt, Reception, receivedAt, segmentChecks, segment}
-use Rattle.rules.specs.Sweep.{lossOf, Sweeping, sweep, unswept, reportLeast, isDue, isOf, clockChecks, clock, releaseChecks, release}
-use Rattle.rules.specs.Calls.{State, Call, Opens, Arrives, Ticks, Releases, Sends, step}
+use Rattle.rules.specs.Receiving.{lineOf}
+use Rattle.rules.specs.Sweep.{lossOf, reportLeast, isDue, clock}
+use Rattle.rules.specs.Calls.{State, Call, Opens, Arrives, Ticks, Releases, Sends, Opening, Tick, step}
 use Rattle.rules.specs.declared.Entry.{Entry}
 use Rattle.rules.specs.declared.Key.{Key}
 use Rattle.rules.specs.declared.Place.{Place}
 use Rattle.rules.specs.declared.Table.{Table}
-use Rattle.rules.specs.declared.Fields.{Fields}
-use Rattle.rules.specs.declared.Found.{Found}
+use Rattle.rules.specs.declared.Heading.{Heading}
 use Rattle.rules.specs.declared.Line.{Line}
 use Rattle.rules.specs.declared.Record.{Record}
-use Rattle.rules.specs.declared.Decision.the-variants.{Refused}
-use Rattle.rules.proofs.Records.{record-length}
 use Rattle.rules.proofs.Numbers.{age-leads, age-is}
 use Rattle.rules.proofs.Held.{open-is, places-sound}
-use Rattle.rules.proofs.Arrived.{arrived as arrived-good}
-use Rattle.demands.specs.Machine.{ours, All, InRange, Typed}
-use Rattle.demands.specs.History.{Segment, Told, filed, settled, with, recordsIn, keyIn, segmentIn, arrived, restarts, nextOf, after}
-use Rattle.demands.specs.Demand3.{View, viewOf, heldFrom, held, owing, Now, call, calls, opened}
+use Rattle.demands.specs.Machine.{ours, isOpening, All, InRange}
+use Rattle.demands.specs.Seen.{seenBy}
+use Rattle.demands.specs.History.{Segment, Told, Deed, Takes, Passes, Ends, filed, settled, arrived, leftIn, recordsIn, deedsOf, beginning, counted, didAll, EachDeed, EachIn, after, isRestart, keyIn, segmentIn, lineIn}
+use Rattle.demands.specs.Demand3.{Ending, endingOf, endingsOf, Received, Ruled, IsLost, View, viewOf, heldFrom, held, owing}
 use Rattle.demands.specs.Timer.{lostBy, isOld, ticksAfter, Timed, Timer}
-use Rattle.demands.proofs.ByLine.{and-false, line-cases}
+use Rattle.demands.proofs.ByLine.{line-cases}
+use Rattle.demands.proofs.Spared.{clash}
 use Rattle.demands.proofs.Sweeping.{losses}
-use Rattle.demands.proofs.Accepting.{key-fits, clock-good, release-good}
+use Rattle.demands.proofs.Accepting.{clock-good}
 use Rattle.demands.proofs.Refused.{zero-accepted}
-use Rattle.demands.proofs.Kept.{Inv, sweep-back, inv-opened, inv-call}
+use Rattle.demands.proofs.Kept.{Inv, due-open, made-back, open-done, call-done, inv-opened, inv-call}
+use Rattle.demands.proofs.Running.{either, meets}
 
 -- the first segment's age on the clock is its true age
 abbrev pub Early : ℕ → ℕ → List Segment → Type 0
@@ -72,12 +67,14 @@ module _ (time ticks : ℕ) where
   early-more x [] a b = a
   early-more x (y ∷ l) a b = b
 
-early-arrived : (h : Told) → h .time < 2 ^ 32 → (association : ℕ) (s : List ℕ) (u : Key → List Segment) → Prompt (h .time) (h .ticks) u
-    → Prompt (h .time) (h .ticks) (arrived h association s u)
-unfolding age
-early-arrived h b association s u p =
-    early-filed (h .time) (h .ticks) u (keyIn h association s) (u (keyIn h association s) ++ (segmentIn h s ∷ [])) p
-    (early-more (h .time) (h .ticks) (segmentIn h s) (u (keyIn h association s)) (b, omega arith, omega arith) (p (keyIn h association s)))
+  early-arrived : (u : Key → List Segment) (k : Key) (x : Segment) → x .time ≡ time → x .ticks ≡ ticks → time < 2 ^ 32 → Prompt time ticks u → Prompt time ticks (arrived u k x)
+  unfolding age
+  early-arrived u k x e f b p = early-filed u k (u k ++ (x ∷ [])) p (early-more x (u k) (rw e b, rw f (omega arith), rw (e, f) (omega arith)) (p k))
+
+  early-left : (restart : Bool) (u : Key → List Segment) (k : Key) (x : Segment) (rs : List Record) → x .time ≡ time → x .ticks ≡ ticks → time < 2 ^ 32 → Prompt time ticks u
+      → Prompt time ticks (leftIn restart u k x rs)
+  early-left true u k x rs e f b p = early-arrived (settled u rs) k x e f b (early-settled rs u p)
+  early-left false u k x rs e f b p = early-settled rs (arrived u k x) (early-arrived u k x e f b p)
 
 -- a step of the clock, where nothing turns round
 turns : (new now old a b : ℕ) → (a + old) % 2 ^ 32 ≡ now → (b + now) % 2 ^ 32 ≡ new → (a + b + old) % 2 ^ 32 ≡ new
@@ -107,9 +104,6 @@ young-held registry timer clock store k i (p ∷ ps) e =
     go true h q ih = simp (open-young registry timer clock p (open-is registry timer clock p q (and-eq-true-iff (isOpen p) (sameKey (p .key) k) .0 h .0)), ih)
     go false h q ih = ih
 
-pub clash : {A : Type 0} → false ≡ true → A
-clash e = absurd (let z : _≡_ {A = ℕ} 0 1 = cc in omega arith)
-
 unfoldable pub anyOf : (View → Bool) → List View → Bool
 anyOf seen [] = false
 anyOf seen (w ∷ ws) = seen w || anyOf seen ws
@@ -134,9 +128,9 @@ swept-is cause own test seen store k fits i (p ∷ ps) =
     go true true true true q e f ih = simp (q, own, e)
     go false true true false q e f ih = simp e ih
     go false false true d q e f ih = ih
-    go true true true false q e f ih = clash (sym (f refl))
-    go false true true true q e f ih = clash (f refl)
-    go true false true d q e f ih = clash (sym (f refl))
+    go true true true false q e f ih = absurd (clash refl (f refl))
+    go false true true true q e f ih = absurd (clash (f refl) refl)
+    go true false true d q e f ih = absurd (clash refl (f refl))
 
 timer-most : (t : Table) → sound t ≡ true → t .timer ≤ 1000000
 unfolding sound
@@ -146,171 +140,151 @@ timer-most t s = leb-true (t .timer) 1000000 ((simp and-eq-true-iff at s) .0 .0 
 abbrev olds : ℕ → ℕ → View → Bool
 olds timer time w = leb timer (age time (w .start))
 
-module _ (n : Now) (inv : Inv (n .state) (n .told)) (timely : Timely (n .told)) where
-  abbrev h : Told
-  h = n .told
+-- No other deed gives a cause over 5 but the release, and that gives 7
 
+other-cause : (a b c l : Bool) → c ≡ false → (if a && b && c then true else l) ≡ l
+other-cause true true c l e = rw e
+other-cause true false c l e = refl
+other-cause false true c l e = refl
+other-cause false false c l e = refl
+
+pub lost-other : (n cause : ℕ) → eqb n cause ≡ false → (k : Key) (rs : List Record) → All (IsLost n) rs → lostBy cause k rs ≡ false
+lost-other n cause e k [] all = refl
+lost-other n cause e k (r ∷ rs) all =
+    other-cause (sameKey (r .key) k) (eqb (r .kind) lost) (eqb (r .cause) cause) (lostBy cause k rs) (ap (λ (m : ℕ). eqb m cause) (all .0 .cause) ∙ e)
+    ∙ lost-other n cause e k rs (all .1)
+
+-- one record at most, with a cause up to 5
+abbrev Mild : List Ending → Type 0
+Mild [] = Unit {0}
+Mild (x ∷ []) = x .cause < 6
+Mild (x ∷ y ∷ l) = ⊥
+
+mild-line : (k : Key) (isOpen : Bool) (before saved : ℕ) (g : Heading) (n : ℕ) → Mild (endingsOf k (lineOf isOpen before saved g n))
+mild-line k isOpen before saved g n =
+    line-cases (λ (line : Line). Mild (endingsOf k line)) isOpen before saved g n
+    (λ e. omega arith) (λ cause l e. l) (λ e o. omega arith) (λ e o. tt) (λ e o l. omega arith) (λ e o l. tt)
+
+mild-other : (cause : ℕ) → 6 ≤ cause → (k : Key) (rs : List Record) → Mild (map endingOf rs) → lostBy cause k rs ≡ false
+mild-other cause b k [] m = refl
+mild-other cause b k (r ∷ []) m = other-cause (sameKey (r .key) k) (eqb (r .kind) lost) (eqb (r .cause) cause) false (ne-eqb (r .cause) cause (omega arith))
+mild-other cause b k (r ∷ q ∷ rs) m = absurd m
+
+pub line-other : (cause : ℕ) → 6 ≤ cause → (h : Told) (association : ℕ) (s : List ℕ) (rs : List Record) → Received h association s rs → (k : Key) → lostBy cause k rs ≡ false
+line-other cause b h association s rs d k = mild-other cause b k rs (rw (d .ends) (mild-line _ _ _ _ _ _))
+
+module _ (st : State) (h : Told) (inv : Inv st h) where
   abbrev t : Table
-  t = n .state .table
+  t = st .table
 
-  -- what is uncovered is not T old, and stays timed by the clock
-  older : (time : ℕ) → time < 2 ^ 32 → sound t ≡ true → age time (t .clock) < 2 ^ 31 → Prompt time (ticksAfter h time) (h .uncovered)
-  unfolding held
-  older time b good step k = go (h .uncovered k) (inv .exact k) (timely .early k)
-    where
-      go : (l : List Segment) → heldFrom (n .state .store) k 0 (t .places) ≡ owing l → Early (h .time) (h .ticks) l → Early time (ticksAfter h time) l
-      go [] e y = tt
-      go (x ∷ l) e y =
-          let link = inv .link good .clock in
-          let young = rw e at (young-held (t .registry) (t .timer) (t .clock) (n .state .store) k 0 (t .places) (places-sound t good)) in
-          let less = ltb-true (age (t .clock) (x .time)) (t .timer) (and-eq-true-iff _ _ .0 young .0) in
-          let now : age (h .time) (x .time) < 1000001 = rw (← link) (let m = timer-most t good in omega arith) in
-          let far : age time (h .time) < 2 ^ 31 = rw (← link) step in
-          (y .0, (let z = y .1 in omega arith), age-more time (h .time) (x .time) (h .ticks) (x .ticks) b (timely .time) (y .0) (y .1) (y .2) now far)
+  ticks-good : (x : Tick) → eqb (step st (Ticks x) .answer .refusal) 0 ≡ true → (sound t ≡ true) × (reportLeast ≤ length (x .report)) × (age (x .time) (t .clock) < 2 ^ 31)
+  ticks-good x e = clock-good t (x .report) (x .time) (zero-accepted st (Ticks x) (eqb-true _ 0 e))
 
-  ticks-good : (time : ℕ) (report : List ℕ) → step (n .state) (Ticks time report) .answer .refusal ≡ 0 → (sound t ≡ true) × (reportLeast ≤ length report) × (age time (t .clock) < 2 ^ 31)
-  ticks-good time report z = clock-good t report time (zero-accepted (n .state) (Ticks time report) z)
+  ticks-records : (x : Tick) → eqb (step st (Ticks x) .answer .refusal) 0 ≡ true → recordsIn (step st (Ticks x) .answer) ≡ losses (isDue (x .time) (t .timer)) 6 (t .places)
+  unfolding step clock
+  ticks-records x e =
+      let c = ticks-good x e in
+      rw (zero-accepted st (Ticks x) (eqb-true _ 0 e))
+      (made-back st h inv (isDue (x .time) (t .timer)) (due-open st h inv (x .time) (t .timer)) 6 (x .report) (c .0) (c .1) (x .time))
 
-  pub ticks-records : (time : ℕ) (report : List ℕ) → accepted (clockChecks t report time) ≡ true → recordsIn (step (n .state) (Ticks time report) .answer) ≡ losses (isDue time (t .timer)) 6 (t .places)
-  unfolding step clock sweep
-  ticks-records time report e =
-      let c = clock-good t report time e in
-      rw e (sweep-back n inv report (isDue time (t .timer)) (λ p q. and-eq-true-iff (isOpen p) (leb (t .timer) (age time (p .start))) .0 q .0) 6 (c .0) (c .1))
+  module _ (timely : Timely h) where
+    -- what is uncovered is not T old, and stays timed by the clock
+    older : (time : ℕ) → time < 2 ^ 32 → sound t ≡ true → age time (t .clock) < 2 ^ 31 → Prompt time (ticksAfter h time) (h .uncovered)
+    unfolding held
+    older time b good step k = go (h .uncovered k) (inv .agrees .exact k) (timely .early k)
+      where
+        go : (l : List Segment) → heldFrom (st .store) k 0 (t .places) ≡ owing l → Early (h .time) (h .ticks) l → Early time (ticksAfter h time) l
+        go [] e y = tt
+        go (x ∷ l) e y =
+            let link = inv .agrees .clock in
+            let young = rw e at (young-held (t .registry) (t .timer) (t .clock) (st .store) k 0 (t .places) (places-sound t good)) in
+            let less = ltb-true (age (t .clock) (x .time)) (t .timer) (and-eq-true-iff _ _ .0 young .0) in
+            let now : age (h .time) (x .time) < 1000001 = rw (← link) (let m = timer-most t good in omega arith) in
+            let far : age time (h .time) < 2 ^ 31 = rw (← link) step in
+            (y .0, (let z = y .1 in omega arith), age-more time (h .time) (x .time) (h .ticks) (x .ticks) b (timely .time) (y .0) (y .1) (y .2) now far)
 
-  next-timely : (c : Call) → InRange c → step (n .state) c .answer .refusal ≡ 0 → Timely (nextOf h c (step (n .state) c .answer))
-  next-timely (Opens registry timer time) r z = absurd r
-  next-timely (Arrives association s report) r z = go (restarts h association s) (recordsIn (step (n .state) (Arrives association s report) .answer))
-    where
-      go : (b : Bool) (rs : List Record) → Timely (if b then with h (arrived h association s (settled (h .uncovered) rs)) else with h (settled (arrived h association s (h .uncovered)) rs))
-      go true rs =
-          record { time = timely .time; early = early-arrived h (timely .time) association s (settled (h .uncovered) rs) (early-settled (h .time) (h .ticks) rs (h .uncovered) (timely .early)) }
-      go false rs =
-          record { time = timely .time; early = early-settled (h .time) (h .ticks) rs (arrived h association s (h .uncovered)) (early-arrived h (timely .time) association s (h .uncovered) (timely .early)) }
-  next-timely (Ticks time report) r z =
-      let c = ticks-good time report z in
-      record { time = r; early = early-settled time (ticksAfter h time) (recordsIn (step (n .state) (Ticks time report) .answer)) (h .uncovered) (older time r (c .0) (c .2)) }
-  next-timely (Releases association report) r z =
-      record { time = timely .time; early = early-settled (h .time) (h .ticks) (recordsIn (step (n .state) (Releases association report) .answer)) (h .uncovered) (timely .early) }
-  next-timely (Sends q o d whole area) r z = timely
+    -- the same history, counted
+    still : Timely (counted h)
+    still = record { time = timely .time; early = timely .early }
 
-  timely-call : (c : Call) → InRange c → Timely (call ours n c .told)
-  unfolding after
-  timely-call c r = go (eqb (step (n .state) c .answer .refusal) 0) refl
-    where
-      go : (b : Bool) → eqb (step (n .state) c .answer .refusal) 0 ≡ b → Timely (if b then nextOf h c (step (n .state) c .answer) else h)
-      go true e = next-timely c r (eqb-true (step (n .state) c .answer .refusal) 0 e)
-      go false e = timely
+    timely-call : (c : Call) → InRange c → isOpening c ≡ false → Timely (after h (seenBy ours st c))
+    unfolding after deedsOf
+    timely-call (Opens x) r o = absurd (clash refl o)
+    timely-call (Arrives x) r o =
+        let rs : List Record = recordsIn (step st (Arrives x) .answer) in
+        either (λ (ds : List Deed). Timely (didAll (counted h) ds)) (eqb (step st (Arrives x) .answer .refusal) 0) (Takes (x .association) (x .parameter) rs)
+        (λ e. record { time = timely .time; early = early-left (h .time) (h .ticks) (isRestart (lineIn (counted h) (x .association) (x .parameter))) (h .uncovered) _ _ rs refl refl (timely .time) (timely .early) })
+        still
+    timely-call (Ticks x) r o =
+        let rs : List Record = recordsIn (step st (Ticks x) .answer) in
+        either (λ (ds : List Deed). Timely (didAll (counted h) ds)) (eqb (step st (Ticks x) .answer .refusal) 0) (Passes (x .time) rs)
+        (λ e.
+        let c = ticks-good x e in
+        record { time = r; early = early-settled (x .time) (ticksAfter h (x .time)) rs (h .uncovered) (older (x .time) r (c .0) (c .2)) })
+        still
+    timely-call (Releases x) r o =
+        let rs : List Record = recordsIn (step st (Releases x) .answer) in
+        either (λ (ds : List Deed). Timely (didAll (counted h) ds)) (eqb (step st (Releases x) .answer .refusal) 0) (Ends (x .association) rs)
+        (λ e. record { time = timely .time; early = early-settled (h .time) (h .ticks) rs (h .uncovered) (timely .early) })
+        still
+    timely-call (Sends x) r o = still
 
-  old-is : (time : ℕ) (l : List Segment) → Early time (ticksAfter h time) l → (anyOf (olds (h .timer) time) (owing l) ≡ true) ↔ isOld (h .timer) (ticksAfter h time) l
-  unfolding anyOf
-  old-is time [] e = (λ z. clash z, λ z. absurd z)
-  old-is time (x ∷ l) e =
-      let a = e .2 in
-      (λ z. (let q = leb-true (h .timer) (age time (x .time)) (or-false _ z) in omega arith), λ z. simp (le-leb (h .timer) (age time (x .time)) (omega arith)))
-    where
-      or-false : (b : Bool) → (b || false) ≡ true → b ≡ true
-      or-false true q = refl
-      or-false false q = q
+    old-is : (time : ℕ) (l : List Segment) → Early time (ticksAfter h time) l → (anyOf (olds (h .timer) time) (owing l) ≡ true) ↔ isOld (h .timer) (ticksAfter h time) l
+    unfolding anyOf
+    old-is time [] e = (λ z. absurd (clash z refl), λ z. absurd z)
+    old-is time (x ∷ l) e =
+        let a = e .2 in
+        (λ z. (let q = leb-true (h .timer) (age time (x .time)) (or-false _ z) in omega arith), λ z. simp (le-leb (h .timer) (age time (x .time)) (omega arith)))
+      where
+        or-false : (b : Bool) → (b || false) ≡ true → b ≡ true
+        or-false true q = refl
+        or-false false q = q
 
-  clock-timed : (time : ℕ) (report : List ℕ) → time < 2 ^ 32 → step (n .state) (Ticks time report) .answer .refusal ≡ 0 → (k : Key)
-      → (lostBy 6 k (recordsIn (step (n .state) (Ticks time report) .answer)) ≡ true) ↔ isOld (h .timer) (ticksAfter h time) (h .uncovered k)
-  unfolding held
-  clock-timed time report b z k =
-      let c = ticks-good time report z in
-      let e : lostBy 6 k (recordsIn (step (n .state) (Ticks time report) .answer)) ≡ anyOf (olds (h .timer) time) (owing (h .uncovered k)) =
-      ap (lostBy 6 k) (ticks-records time report (zero-accepted (n .state) (Ticks time report) z)) ∙ swept-is 6 refl (isDue time (t .timer)) (olds (t .timer) time) (n .state .store) k (λ i p e. refl) 0 (t .places)
-      ∙ ap₂ (λ (m : ℕ) (l : List View). anyOf (olds m time) l) (inv .link (c .0) .timer) (inv .exact k) in
-      rw e (old-is time (h .uncovered k) (older time b (c .0) (c .2) k))
+    clock-timed : (x : Tick) → x .time < 2 ^ 32 → eqb (step st (Ticks x) .answer .refusal) 0 ≡ true → (k : Key)
+        → (lostBy 6 k (recordsIn (step st (Ticks x) .answer)) ≡ true) ↔ isOld (h .timer) (ticksAfter h (x .time)) (h .uncovered k)
+    unfolding held
+    clock-timed x b z k =
+        let c = ticks-good x z in
+        let e : lostBy 6 k (recordsIn (step st (Ticks x) .answer)) ≡ anyOf (olds (h .timer) (x .time)) (owing (h .uncovered k)) =
+        ap (lostBy 6 k) (ticks-records x z) ∙ swept-is 6 refl (isDue (x .time) (t .timer)) (olds (t .timer) (x .time)) (st .store) k (λ i p e. refl) 0 (t .places)
+        ∙ ap₂ (λ (m : ℕ) (l : List View). anyOf (olds m (x .time)) l) (inv .agrees .timer) (inv .agrees .exact k) in
+        rw e (old-is (x .time) (h .uncovered k) (older (x .time) b (c .0) (c .2) k))
 
--- No other call gives cause 6
+    -- deeds that are ruled are timed
+    abbrev So : List Deed → Type 0
+    So ds = EachDeed Ruled (counted h) ds → EachDeed Timed (counted h) ds
 
-pub losses-timed : (test : Place → Bool) (cause other : ℕ) → eqb cause other ≡ false → (k : Key) (ps : List Place) → lostBy other k (losses test cause ps) ≡ false
-losses-timed test cause other e k [] = refl
-losses-timed test cause other e k (p ∷ ps) = go (test p) (losses-timed test cause other e k ps)
+    timed-call : (c : Call) → InRange c → isOpening c ≡ false → EachIn Ruled h (seenBy ours st c) → EachIn Timed h (seenBy ours st c)
+    unfolding EachIn deedsOf
+    timed-call (Opens x) r o = absurd (clash refl o)
+    timed-call (Arrives x) r o =
+        either So (eqb (step st (Arrives x) .answer .refusal) 0) _ (λ e d. (line-other 6 (omega arith) (counted h) (x .association) (x .parameter) _ (d .0), tt)) (λ d. tt)
+    timed-call (Ticks x) r o = either So (eqb (step st (Ticks x) .answer .refusal) 0) _ (λ e d. (clock-timed x r e, tt)) (λ d. tt)
+    timed-call (Releases x) r o =
+        either So (eqb (step st (Releases x) .answer .refusal) 0) _ (λ e d. (λ k. lost-other 7 6 refl k (recordsIn (step st (Releases x) .answer)) (d .0), tt)) (λ d. tt)
+    timed-call (Sends x) r o = λ d. tt
+
+pub record Timing (st : State) (h : Told) : Type 0 where
+  pub inv : Inv st h
+  pub timely : Timely h
+
+timing-opened : (st : State) (h : Told) (x : Opening) → InRange (Opens x) → Timely (after h (seenBy ours st (Opens x)))
+unfolding after deedsOf
+timing-opened st h x r = go (eqb (step st (Opens x) .answer .refusal) 0)
   where
-    go : (b : Bool) → lostBy other k (losses test cause ps) ≡ false → lostBy other k (map (lossOf cause) (if b then p ∷ those test ps else those test ps)) ≡ false
-    go true ih = simp (e, and-false (sameKey (p .key) k)) ih
-    go false ih = ih
+    go : (b : Bool) → Timely (beginning (h .number + 1) x b)
+    go true = record { time = r; early = λ k. tt }
+    go false = record { time = omega arith; early = λ k. tt }
 
--- at most one record, of a cause below 6
-abbrev Calm : List Record → Type 0
-Calm [] = Unit {0}
-Calm (r ∷ []) = (length (r .key .address) ≡ addressMost) × (r .cause < 6)
-Calm (r ∷ q ∷ rs) = ⊥
+opened-timed : (st : State) (h : Told) (x : Opening) → EachIn Timed h (seenBy ours st (Opens x))
+unfolding EachIn deedsOf
+opened-timed st h x = (tt, tt)
 
-own-cause : (r : Record) → recordFrom (recordOctets r) .cause ≡ r .cause
-unfolding recordFrom recordOctets
-own-cause r = refl
-
-cause-back : (r : Record) (report : List ℕ) → length (r .key .address) ≡ addressMost → recordLength ≤ length report
-    → recordFrom (take recordLength (splice report 0 (recordOctets r ++ []))) .cause ≡ r .cause
-cause-back r report a h =
-    let l = record-length r a in
-    rw (append-nil (recordOctets r), splice-is report 0 (recordOctets r) (omega arith), take-at (recordOctets r) (drop (0 + length (recordOctets r)) report) recordLength l) (own-cause r)
-
-calm-timed : (cause : ℕ) → 6 ≤ cause → (k : Key) (rs : List Record) (report : List ℕ) → Calm rs → recordLength ≤ length report
-    → lostBy cause k (recordsFrom (length rs) (splice report 0 (recordsOctets rs))) ≡ false
-calm-timed cause b k [] report c h = refl
-calm-timed cause b k (r ∷ []) report c h = rw (cause-back r report (c .0) h, ne-eqb (r .cause) cause (let l = c .1 in omega arith)) (rw (and-false (sameKey (recordFrom (take recordLength (splice report 0 (recordOctets r ++ []))) .key) k)) refl)
-calm-timed cause b k (r ∷ q ∷ rs) report c h = absurd c
-
-calm-effect : (t : Table) (store : List ℕ) (k : Key) (f : Fields) (octets : List ℕ) (place : Found) (p : Place) (room : Found) (isOpen : Bool) (before saved size : ℕ)
-    → length (k .address) ≡ addressMost
-    → Calm (effectOf (lineOf isOpen before saved (f .heading) size) t store k f octets place p room .records)
-unfolding effectOf
-calm-effect t store k f octets place p room isOpen before saved size a =
-    line-cases (λ (line : Line). Calm (effectOf line t store k f octets place p room .records)) isOpen before saved (f .heading) size
-    (λ e. (a, omega arith)) (λ cause l e. (a, l)) (λ e o. (a, omega arith)) (λ e o. tt) (λ e o l. (a, omega arith)) (λ e o l. tt)
-
-pub segment-timed : (cause : ℕ) → 6 ≤ cause → (st : State) (association : ℕ) (s report : List ℕ) (k : Key) → lostBy cause k (recordsIn (step st (Arrives association s report) .answer)) ≡ false
-unfolding step segment
-segment-timed cause b st association s report k = go (accepted (segmentChecks (st .table) (st .store) report association s)) refl
-  where
-    go : (c : Bool) → accepted (segmentChecks (st .table) (st .store) report association s) ≡ c
-        → (let o : Reception = if c then receivedAt (st .table) (st .store) report association s
-        else record {
-          answer = record { table = st .table; decision = Refused; refusal = first (segmentChecks (st .table) (st .store) report association s); records = 0 };
-          store = st .store;
-          report = report;
-        } in
-        lostBy cause k (recordsFrom (o .answer .records) (o .report)) ≡ false)
-    go true e =
-        let c = arrived-good (st .table) (st .store) report association s e in
-        let t : Table = st .table in
-        let f : Fields = fieldsOf (t .registry) s in
-        let key : Key = keyOf association s f in
-        let octets : List ℕ = informationOf s f in
-        let place : Found = placeOf key (t .places) in
-        let p : Place = placeAt (t .places) place in
-        let room : Found = lowestFree (t .places) in
-        calm-timed cause b k (effectOf (lineAt t key (f .heading) (length octets)) t (st .store) key f octets place p room .records) report
-        (calm-effect t (st .store) key f octets place p room (isAt place) (p .remaining .0) (p .octets) (length octets) (key-fits (t .registry) s (c .reading) 0 (omega arith) .address))
-        (c .reports)
-    go false e = refl
-
-release-timed : (n : Now) → Inv (n .state) (n .told) → (association : ℕ) (report : List ℕ) (k : Key) → lostBy 6 k (recordsIn (step (n .state) (Releases association report) .answer)) ≡ false
-unfolding step release sweep
-release-timed n inv association report k = go (accepted (releaseChecks (n .state .table) report)) refl
-  where
-    go : (b : Bool) → accepted (releaseChecks (n .state .table) report) ≡ b
-        → (let o : Sweeping = if b then sweep (isOf association) 7 (n .state .table .clock) (n .state .table) report
-        else unswept (n .state .table) report (first (releaseChecks (n .state .table) report)) in
-        lostBy 6 k (recordsFrom (o .answer .records) (o .report)) ≡ false)
-    go true e =
-        let c = release-good (n .state .table) report e in
-        rw (sweep-back n inv report (isOf association) (λ p q. and-eq-true-iff (isOpen p) (eqb (p .key .association) association) .0 q .0) 7 (c .0) (c .1))
-        (losses-timed (isOf association) 7 6 refl k (n .state .table .places))
-    go false e = refl
-
-module _ (typed-kept : (st : State) (c : Call) → Typed (st .table) → InRange c → Typed (step st c .state .table))
-    (typed-opened : (st : State) (registry : List ℕ) (timer time : ℕ) → Typed (step st (Opens registry timer time) .state .table)) where
-  timed-calls : (n : Now) → Inv (n .state) (n .told) → Timely (n .told) → (cs : List Call) → All InRange cs → Timed ours (calls ours n cs)
-  timed-calls n inv timely [] r = record { clock = clock-timed n inv timely; segment = segment-timed 6 (omega arith) (n .state); release = release-timed n inv }
-  timed-calls n inv timely (c ∷ cs) r = timed-calls (call ours n c) (inv-call typed-kept typed-opened n inv c (r .0)) (timely-call n inv timely c (r .0)) cs (r .1)
-
-  pub timer : Timer ours
-  timer =
-      record {
-        along = λ st registry t time b cs r.
-            timed-calls (opened ours st registry t time) (inv-opened typed-kept typed-opened st registry t time) (record { time = b; early = λ k. tt }) cs r;
-      }
+pub timer : Timer ours
+timer =
+    meets (EachIn Timed) Timing
+    (λ st h x r. (opened-timed st h x, record { inv = inv-opened st h x; timely = timing-opened st h x r }))
+    (λ st h i c r o. (
+      timed-call st h (i .inv) (i .timely) c r o (call-done st h (i .inv) c r o .ruled),
+      record { inv = inv-call st h (i .inv) c r o; timely = timely-call st h (i .inv) (i .timely) c r o },
+    ))

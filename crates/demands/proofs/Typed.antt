@@ -13,7 +13,7 @@ use Rattle.rules.specs.Opening.{emptyTable}
 use Rattle.rules.specs.Registry.{entriesOf}
 use Rattle.rules.specs.Receiving.{keyOf, effectOf, Reception}
 use Rattle.rules.specs.Sweep.{freedBy, Sweeping, sweep}
-use Rattle.rules.specs.Calls.{State, Call, Opens, Arrives, Ticks, Releases, Sends, step}
+use Rattle.rules.specs.Calls.{State, Call, Opens, Arrives, Ticks, Releases, Sends, toOpen, step}
 use Rattle.rules.specs.declared.Entry.{Entry}
 use Rattle.rules.specs.declared.Key.{Key}
 use Rattle.rules.specs.declared.Place.{Place}
@@ -83,23 +83,25 @@ sweep-typed : (test : Place → Bool) (cause time : ℕ) (t : Table) (report : L
 unfolding sweep
 sweep-typed test cause time t report h = record { count = simp length-map (h .count); each = freed-typed test (t .places) (h .each) }
 
-pub typed-opened : (st : State) (registry : List ℕ) (timer time : ℕ) → Typed (step st (Opens registry timer time) .state .table)
+pub typed-opened : (st : State) (registry : List ℕ) (timer time : ℕ) → Typed (step st (toOpen registry timer time) .state .table)
 unfolding step
 typed-opened st registry timer time =
     opened-by (λ (o : Opened). Typed (o .table)) registry timer time (λ e. empty-typed (entriesOf registry) timer time) (λ e. empty-typed [] 0 0)
 
 pub typed-kept : (st : State) (c : Call) → Typed (st .table) → InRange c → Typed (step st c .state .table)
 unfolding step
-typed-kept st (Opens registry timer time) h r = absurd r
-typed-kept st (Arrives association s report) h r =
-    segment-by (λ (o : Reception). Typed (o .answer .table)) (st .table) (st .store) report association s
+typed-kept st (Opens x) h r = typed-opened st (x .registry) (x .timer) (x .time)
+typed-kept st (Arrives x) h r =
+    let s : List ℕ = x .parameter in
+    segment-by (λ (o : Reception). Typed (o .answer .table)) (st .table) (st .store) (x .report) (x .association) s
     (λ e.
-    let short = address-short (st .table .registry) s (arrived (st .table) (st .store) report association s e .reading) in
-    let all = effect-typed _ (st .table) (st .store) _ _ _ _ _ _ (key-typed association s (fieldsOf (st .table .registry) s) r short) (h .count, h .each) in
+    let short = address-short (st .table .registry) s (arrived (st .table) (st .store) (x .report) (x .association) s e .reading) in
+    let all = effect-typed _ (st .table) (st .store) _ _ _ _ _ _ (key-typed (x .association) s (fieldsOf (st .table .registry) s) r short) (h .count, h .each) in
     record { count = all .0; each = all .1 })
     (λ e. h)
-typed-kept st (Ticks time report) h r =
-    clock-by (λ (o : Sweeping). Typed (o .answer .table)) (st .table) report time (λ e. sweep-typed _ 6 time (st .table) report h) (λ e. h)
-typed-kept st (Releases association report) h r =
-    release-by (λ (o : Sweeping). Typed (o .answer .table)) (st .table) report association (λ e. sweep-typed _ 7 (st .table .clock) (st .table) report h) (λ e. h)
-typed-kept st (Sends q o d whole area) h r = h
+typed-kept st (Ticks x) h r =
+    clock-by (λ (o : Sweeping). Typed (o .answer .table)) (st .table) (x .report) (x .time) (λ e. sweep-typed _ 6 (x .time) (st .table) (x .report) h) (λ e. h)
+typed-kept st (Releases x) h r =
+    release-by (λ (o : Sweeping). Typed (o .answer .table)) (st .table) (x .report) (x .association) (λ e. sweep-typed _ 7 (st .table .clock) (st .table) (x .report) h)
+    (λ e. h)
+typed-kept st (Sends x) h r = h

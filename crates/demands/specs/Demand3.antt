@@ -1,18 +1,62 @@
 -- DEMAND 3. From one opening, refused or not, until the next, through any calls made with the table and store as the last call left them.
 use Prim.Native.Nat.{ℕ, suc}
 use mathlib.Core.Path.{_≡_}
-use mathlib.Core.List.{List, [], _∷_, _++_}
+use mathlib.Core.Bool.{true, false}
+use mathlib.Core.List.{List, [], _∷_, _++_, map}
 use lib.Dec.{eqb}
 use lib.ListN.{length, take, drop}
 use Rattle.rules.specs.General.{if_then_else_}
 use Rattle.rules.specs.Numbers.{placeStart}
-use Rattle.rules.specs.Records.{delivered}
+use Rattle.rules.specs.Refusals.{accepted}
+use Rattle.rules.specs.Layout.{readingChecks}
+use Rattle.rules.specs.Records.{delivered, lost}
 use Rattle.rules.specs.Places.{holds}
-use Rattle.rules.specs.Calls.{State, Call, Opens, Arrives, Ticks, Releases, Sends}
+use Rattle.rules.specs.Calls.{State}
 use Rattle.rules.specs.declared.Key.{Key}
 use Rattle.rules.specs.declared.Place.{Place}
-use Rattle.demands.specs.Machine.{Machine, InRange, All}
-use Rattle.demands.specs.History.{Segment, Told, Cover, joined, after, covers, beginning}
+use Rattle.rules.specs.declared.Record.{Record}
+use Rattle.rules.specs.declared.Line.{Line}
+use Rattle.rules.specs.declared.Line.the-variants.{Unsegmented, Broken, Restart, Start, Final, Next}
+use Rattle.demands.specs.Machine.{Machine, isOpening, All}
+use Rattle.demands.specs.Seen.{Seen}
+use Rattle.demands.specs.History.{Segment, Told, Cover, Deed, Begins, Takes, Passes, Ends, joined, lastRemaining, recordsIn, deedsOf, keyIn, lineIn, recordsBy, after, covers, EachIn, Meets}
+
+-- what a record says of how its sequence ended
+pub record Ending : Type 0 where
+  pub key : Key
+  pub kind : ℕ
+  pub cause : ℕ
+
+abbrev pub ended : Key → ℕ → ℕ → Ending
+ended key kind cause = record { key = key; kind = kind; cause = cause }
+
+abbrev pub endingOf : Record → Ending
+endingOf r = ended (r .key) (r .kind) (r .cause)
+
+-- the records that a line makes
+abbrev pub endingsOf : Key → Line → List Ending
+endingsOf k Unsegmented = ended k delivered 0 ∷ []
+endingsOf k (Broken cause) = ended k lost cause ∷ []
+endingsOf k Restart = ended k lost 3 ∷ []
+endingsOf k Start = []
+endingsOf k Final = ended k delivered 0 ∷ []
+endingsOf k Next = []
+
+pub record IsLost (n : ℕ) (r : Record) : Type 0 where
+  pub kind : r .kind ≡ lost
+  pub cause : r .cause ≡ n
+
+-- an accepted segment is one that can be read, and its records are those of the line that applies to it
+pub record Received (h : Told) (association : ℕ) (s : List ℕ) (rs : List Record) : Type 0 where
+  pub read : accepted (readingChecks (h .registry) s) ≡ true
+  pub ends : map endingOf rs ≡ endingsOf (keyIn h association s) (lineIn h association s)
+
+-- the clock's records are losses of cause 6, the release's of cause 7
+abbrev pub Ruled : Told → Deed → Type 0
+Ruled h (Begins o good) = Unit {0}
+Ruled h (Takes association s rs) = Received h association s rs
+Ruled h (Passes time rs) = All (IsLost 6) rs
+Ruled h (Ends association rs) = All (IsLost 7) rs
 
 -- a record covers something, its counts are those of what it covers, and its instruction is the first covered one's
 abbrev pub Counted : Cover → List Segment → Type 0
@@ -27,14 +71,6 @@ Fair c = Counted c (c .segments)
 abbrev pub owed : List Cover → List ℕ
 owed [] = []
 owed (c ∷ cs) = if eqb (c .made .kind) delivered then joined (c .segments) ++ owed cs else owed cs
-
--- the parameter that a call hands over
-abbrev pub parameterOf : Call → List ℕ
-parameterOf (Opens registry timer time) = []
-parameterOf (Arrives association s report) = s
-parameterOf (Ticks time report) = []
-parameterOf (Releases association report) = []
-parameterOf (Sends q o d whole area) = []
 
 -- what a table and a store hold of a key: of each place that is open with it, in order
 pub record View : Type 0 where
@@ -64,10 +100,6 @@ unfoldable pub held : State → Key → List View
 held st k = heldFrom (st .store) k 0 (st .table .places)
 
 -- what they must hold: nothing of no segments, else one entry with all of them
-abbrev pub lastRemaining : Segment → List Segment → ℕ
-lastRemaining x [] = x .remaining
-lastRemaining x (y ∷ l) = lastRemaining y l
-
 abbrev pub owing : List Segment → List View
 owing [] = []
 owing (x ∷ l) =
@@ -80,31 +112,22 @@ owing (x ∷ l) =
       saved = joined (x ∷ l);
     } ∷ []
 
--- a state and the history that led there
-pub record Now : Type 0 where
-  pub state : State
-  pub told : Told
+-- a state is what the history tells: of each key it holds what no record covers; registry, T and clock
+pub record Agrees (st : State) (h : Told) : Type 0 where
+  pub exact : (k : Key) → held st k ≡ owing (h .uncovered k)
+  pub registry : st .table .registry ≡ h .registry
+  pub timer : st .table .timer ≡ h .timer
+  pub clock : st .table .clock ≡ h .time
 
-abbrev pub call : Machine → Now → Call → Now
-call m n c = record { state = m .step (n .state) c .state; told = after (n .told) c (m .step (n .state) c .answer) }
+-- at a call: every record is of a deed, is the rules', and is fair to what it covers; what is handed over is what the Delivered ones cover; the state that it leaves is what the
+-- history tells; and a refused call, unless an opening, leaves the state as it was
+pub record Accounted (h : Told) (x : Seen) : Type 0 where
+  pub recorded : recordsIn (x .answer) ≡ recordsBy (deedsOf (x .call) (x .answer))
+  pub ruled : EachIn Ruled h x
+  pub fair : All Fair (covers h x)
+  pub handed : x .handed ≡ owed (covers h x)
+  pub agrees : Agrees (x .left) (after h x)
+  pub unmoved : (x .answer .refusal ≡ 0 → ⊥) → isOpening (x .call) ≡ false → x .left ≡ x .before
 
-abbrev pub calls : Machine → Now → List Call → Now
-calls m n [] = n
-calls m n (c ∷ cs) = calls m (call m n c) cs
-
--- at a call: its records are fair to what they cover; the delivery asked for with its answer, the parameter and the store as it left them is what they cover;
--- and what no record covers is exactly what table and store hold after it
-pub record Accounted (m : Machine) (n : Now) (c : Call) : Type 0 where
-  pub fair : All Fair (covers (n .told) c (m .step (n .state) c .answer))
-  pub handed : m .deliver (m .step (n .state) c .answer .decision) (parameterOf c) (m .step (n .state) c .state .store) ≡ owed (covers (n .told) c (m .step (n .state) c .answer))
-  pub exact : (k : Key) → held (call m n c .state) k ≡ owing (call m n c .told .uncovered k)
-  pub unmoved : (m .step (n .state) c .answer .refusal ≡ 0 → ⊥) → (m .step (n .state) c .answer .records ≡ 0) × (m .step (n .state) c .state ≡ n .state)
-
--- any opening at any state; any calls but openings; any next one
-abbrev pub opened : Machine → State → List ℕ → ℕ → ℕ → Now
-opened m st registry timer time = record { state = m .step st (Opens registry timer time) .state; told = beginning registry timer time }
-
-pub record Demand3 (m : Machine) : Type 0 where
-  pub begins : (st : State) (registry : List ℕ) (timer time : ℕ) (k : Key) → held (opened m st registry timer time .state) k ≡ []
-  pub goes : (st : State) (registry : List ℕ) (timer time : ℕ) (cs : List Call) → All InRange cs → (c : Call) → InRange c
-      → Accounted m (calls m (opened m st registry timer time) cs) c
+abbrev pub Demand3 : Machine → Type 0
+Demand3 m = Meets Accounted m

@@ -1,10 +1,13 @@
 pub mod Machine
+pub mod Seen
 pub mod Demand1
-pub mod Soundness
 pub mod History
 pub mod Demand3
 pub mod Timer
 pub mod Release
+pub mod Soundness
 pub mod Demand2
+pub mod Follows
+pub mod Exactly
 pub mod Bridge
 pub mod Wrong

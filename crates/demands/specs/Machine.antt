@@ -26,39 +26,39 @@ ours = record { step = step; deliver = delivery }
 
 -- the checks of a call, in the paper's order
 abbrev pub checksOf : State → Call → List Check
-checksOf st (Opens registry timer time) = openingChecks registry timer
-checksOf st (Arrives association s report) = segmentChecks (st .table) (st .store) report association s
-checksOf st (Ticks time report) = clockChecks (st .table) report time
-checksOf st (Releases association report) = releaseChecks (st .table) report
-checksOf st (Sends q o d whole area) = sendingChecks (st .table) q o d whole area
+checksOf st (Opens x) = openingChecks (x .registry) (x .timer)
+checksOf st (Arrives x) = segmentChecks (st .table) (st .store) (x .report) (x .association) (x .parameter)
+checksOf st (Ticks x) = clockChecks (st .table) (x .report) (x .time)
+checksOf st (Releases x) = releaseChecks (st .table) (x .report)
+checksOf st (Sends x) = sendingChecks (st .table) (x .request) (x .origin) (x .destination) (x .whole) (x .area)
 
--- the area that a call lends beside the store
-abbrev pub lentOf : Call → List ℕ
-lentOf (Opens registry timer time) = []
-lentOf (Arrives association s report) = report
-lentOf (Ticks time report) = report
-lentOf (Releases association report) = report
-lentOf (Sends q o d whole area) = area
+-- the parameter that a call hands over
+abbrev pub parameterOf : Call → List ℕ
+parameterOf (Opens x) = []
+parameterOf (Arrives x) = x .parameter
+parameterOf (Ticks x) = []
+parameterOf (Releases x) = []
+parameterOf (Sends x) = []
 
 abbrev pub isOpening : Call → Bool
-isOpening (Opens registry timer time) = true
-isOpening (Arrives association s report) = false
-isOpening (Ticks time report) = false
-isOpening (Releases association report) = false
-isOpening (Sends q o d whole area) = false
+isOpening (Opens x) = true
+isOpening (Arrives x) = false
+isOpening (Ticks x) = false
+isOpening (Releases x) = false
+isOpening (Sends x) = false
 
 -- a statement of every element of a list
 abbrev pub All : {A : Type 0} → (A → Type 0) → List A → Type 0
 All P [] = Unit {0}
 All P (x ∷ l) = P x × All P l
 
--- what the types of a call's numbers say; no opening
+-- what the types of a call's numbers say
 abbrev pub InRange : Call → Type 0
-InRange (Opens registry timer time) = ⊥
-InRange (Arrives association s report) = association < 2 ^ 16
-InRange (Ticks time report) = time < 2 ^ 32
-InRange (Releases association report) = association < 2 ^ 16
-InRange (Sends q o d whole area) = Unit {0}
+InRange (Opens x) = x .time < 2 ^ 32
+InRange (Arrives x) = x .association < 2 ^ 16
+InRange (Ticks x) = x .time < 2 ^ 32
+InRange (Releases x) = x .association < 2 ^ 16
+InRange (Sends x) = Unit {0}
 
 -- what the types of a table's fields say: 16 places, each with an address of 20 octets and an association of 16 bits
 pub record TypedPlace (p : Place) : Type 0 where

@@ -1,39 +1,45 @@
 -- WRONG MACHINES. Each is ours but for one error, and breaks a demand: proofs/Rejected.antt.
-use Prim.Native.Nat.{ℕ, _+_, _-_}
-use mathlib.Core.Bool.{Bool, true, false, _&&_}
+use Prim.Native.Nat.{ℕ, _+_, _-_, _%_}
+use mathlib.Core.Bool.{Bool, true, false, not, _&&_}
 use mathlib.Core.List.{List, [], _∷_, map}
-use lib.Dec.{eqb, leb}
-use lib.ListN.{length, take, replicate}
+use lib.Dec.{eqb, leb, ltb}
+use lib.ListN.{length, take, drop, getD, set, replicate}
 use Rattle.octets.specs.Number.{number}
 use Rattle.octets.specs.Splice.{splice}
-use Rattle.rules.specs.General.{if_then_else_}
-use Rattle.rules.specs.Numbers.{addressMost, stretchLength}
+use Rattle.rules.specs.General.{if_then_else_, every}
+use Rattle.rules.specs.Numbers.{addressMost, stretchLength, placeStart, parameterMost}
 use Rattle.rules.specs.Refusals.{accepted}
-use Rattle.rules.specs.Records.{lost, recordOctets, recordsOctets}
-use Rattle.rules.specs.Layout.{isAlone, fieldsOf}
-use Rattle.rules.specs.Places.{freePlace, isOpen, sameOctets, firstFrom, placeOf, lowestFree, isAt, placeAt, putPlace}
+use Rattle.rules.specs.Registry.{kindOf}
+use Rattle.rules.specs.Records.{delivered, lost, recordOctets, recordsOctets}
+use Rattle.rules.specs.Layout.{isAlone, fieldsOf, contextOctets, parameterOctets}
+use Rattle.rules.specs.Places.{freePlace, isOpen, isFree, sameOctets, firstFrom, placeOf, lowestFree, isAt, placeAt, putPlace}
 use Rattle.rules.specs.Receiving.{keyOf, informationOf, recordWith, openPlace, lineOf, Effect, effectOf, Reception, receptionOf}
-use Rattle.rules.specs.Sweep.{Sweeping, sweep}
+use Rattle.rules.specs.Sweep.{sweep}
+use Rattle.rules.specs.Opening.{registryWith}
 use Rattle.rules.specs.Delivery.{delivery, partOfPlace}
-use Rattle.rules.specs.Calls.{State, Call, Opens, Arrives, Ticks, Releases, Sends, Answer, Outcome, step}
+use Rattle.rules.specs.Sending.{headerLength, isSegmented, countOf, firstCarries, laterCarries, stretchOf, headingFor, carried, segmentOctets}
+use Rattle.rules.specs.Calls.{State, Call, Opens, Arrives, Ticks, Releases, Sends, Arrival, Tick, Release, Dispatch, lending, lentOf, Answer, answering}
+use Rattle.rules.specs.Calls.{Outcome, afterSegment, afterSweep, afterSending, step}
 use Rattle.rules.specs.declared.Key.{Key}
 use Rattle.rules.specs.declared.Fields.{Fields}
+use Rattle.rules.specs.declared.Heading.{Heading}
 use Rattle.rules.specs.declared.Place.{Place}
 use Rattle.rules.specs.declared.Table.{Table}
 use Rattle.rules.specs.declared.Found.{Found}
 use Rattle.rules.specs.declared.Record.{Record}
-use Rattle.rules.specs.declared.Found.the-variants.{Nothing}
+use Rattle.rules.specs.declared.Request.{Request}
+use Rattle.rules.specs.declared.Found.the-variants.{At, Nothing}
 use Rattle.rules.specs.declared.Line.{Line}
 use Rattle.rules.specs.declared.Line.the-variants.{Unsegmented, Broken, Restart, Start, Final, Next}
+use Rattle.rules.specs.declared.Part.the-variants.{OfParameter, OfStore}
 use Rattle.rules.specs.declared.Decision.{Decision}
 use Rattle.rules.specs.declared.Decision.the-variants.{Refused, Saved, Delivered, Lost}
-use Rattle.demands.specs.Machine.{Machine, checksOf, lentOf}
-use Rattle.demands.specs.History.{recordsIn}
-use Rattle.demands.specs.Bridge.{ofReceived, ofSwept}
+use Rattle.demands.specs.Machine.{Machine, checksOf}
+use Rattle.demands.specs.History.{isRestart, recordsIn}
 
 -- an answer that gives nothing, with a refusal number
 abbrev nothing : ℕ → Call → Answer
-nothing n c = record { refusal = n; records = 0; decision = Refused; count = 0; length = 0; lent = lentOf c }
+nothing n c = answering n 0 Refused (lentOf c)
 
 abbrev outcome : Answer → State → Outcome
 outcome a st = record { answer = a; state = st }
@@ -47,62 +53,76 @@ abbrev whereAccepted : (State → Call → Outcome) → Machine
 whereAccepted f = stepping (λ st c. if accepted (checksOf st c) then f st c else step st c)
 
 -- an error in one kind of call: ours for the others
-abbrev onSegment : (State → ℕ → List ℕ → List ℕ → Outcome) → State → Call → Outcome
-onSegment f st (Opens registry timer time) = step st (Opens registry timer time)
-onSegment f st (Arrives association s report) = f st association s report
-onSegment f st (Ticks time report) = step st (Ticks time report)
-onSegment f st (Releases association report) = step st (Releases association report)
-onSegment f st (Sends q o d whole area) = step st (Sends q o d whole area)
+abbrev onSegment : (State → Arrival → Outcome) → State → Call → Outcome
+onSegment f st (Opens x) = step st (Opens x)
+onSegment f st (Arrives x) = f st x
+onSegment f st (Ticks x) = step st (Ticks x)
+onSegment f st (Releases x) = step st (Releases x)
+onSegment f st (Sends x) = step st (Sends x)
 
-abbrev onRelease : (State → ℕ → List ℕ → Outcome) → State → Call → Outcome
-onRelease f st (Opens registry timer time) = step st (Opens registry timer time)
-onRelease f st (Arrives association s report) = step st (Arrives association s report)
-onRelease f st (Ticks time report) = step st (Ticks time report)
-onRelease f st (Releases association report) = f st association report
-onRelease f st (Sends q o d whole area) = step st (Sends q o d whole area)
+abbrev onClock : (State → Tick → Outcome) → State → Call → Outcome
+onClock f st (Opens x) = step st (Opens x)
+onClock f st (Arrives x) = step st (Arrives x)
+onClock f st (Ticks x) = f st x
+onClock f st (Releases x) = step st (Releases x)
+onClock f st (Sends x) = step st (Sends x)
 
-abbrev onClock : (State → ℕ → List ℕ → Outcome) → State → Call → Outcome
-onClock f st (Opens registry timer time) = step st (Opens registry timer time)
-onClock f st (Arrives association s report) = step st (Arrives association s report)
-onClock f st (Ticks time report) = f st time report
-onClock f st (Releases association report) = step st (Releases association report)
-onClock f st (Sends q o d whole area) = step st (Sends q o d whole area)
+abbrev onRelease : (State → Release → Outcome) → State → Call → Outcome
+onRelease f st (Opens x) = step st (Opens x)
+onRelease f st (Arrives x) = step st (Arrives x)
+onRelease f st (Ticks x) = step st (Ticks x)
+onRelease f st (Releases x) = f st x
+onRelease f st (Sends x) = step st (Sends x)
 
--- an answer with these records at the front of its report
-abbrev reporting : Answer → List Record → Answer
-reporting a rs =
-    record { refusal = a .refusal; records = length rs; decision = a .decision; count = a .count; length = a .length; lent = splice (a .lent) 0 (recordsOctets rs) }
+abbrev onSending : (State → Dispatch → Outcome) → State → Call → Outcome
+onSending f st (Opens x) = step st (Opens x)
+onSending f st (Arrives x) = step st (Arrives x)
+onSending f st (Ticks x) = step st (Ticks x)
+onSending f st (Releases x) = step st (Releases x)
+onSending f st (Sends x) = f st x
 
--- it refuses everything
+-- a receiver that refuses everything
 abbrev pub refuses : Machine
-refuses = stepping (λ st c. outcome (nothing 1 c) st)
+refuses = stepping (onSegment (λ st x. outcome (nothing 1 (Arrives x)) st))
 
 -- every segment is lost with cause 1, and the state stays
 abbrev pub losesAll : Machine
-losesAll = whereAccepted (onSegment (λ st association s report.
-    let f : Fields = fieldsOf (st .table .registry) s in
-    let r : Record = recordWith lost 1 (keyOf association s f) (f .heading .instruction) 1 (length (informationOf s f)) in
-    outcome
-    (record { refusal = 0; records = 1; decision = Lost 1 Nothing; count = 0; length = 0; lent = splice report 0 (recordOctets r) })
-    st))
+losesAll = whereAccepted (onSegment (λ st x.
+    let f : Fields = fieldsOf (st .table .registry) (x .parameter) in
+    let r : Record = recordWith lost 1 (keyOf (x .association) (x .parameter) f) (f .heading .instruction) 1 (length (informationOf (x .parameter) f)) in
+    outcome (answering 0 1 (Lost 1 Nothing) (lending (splice (x .report) 0 (recordOctets r)) [])) st))
 
 -- the right answers, and table and store stay as before the segment
 abbrev pub forgets : Machine
-forgets = stepping (onSegment (λ st association s report. outcome (step st (Arrives association s report) .answer) st))
+forgets = stepping (onSegment (λ st x. outcome (step st (Arrives x) .answer) st))
 
 -- the right answers and the right table, and only a first segment is written to the store
 abbrev pub savesFirst : Machine
-savesFirst = stepping (onSegment (λ st association s report.
-    let o : Outcome = step st (Arrives association s report) in
-    if fieldsOf (st .table .registry) s .heading .new then o else
+savesFirst = stepping (onSegment (λ st x.
+    let o : Outcome = step st (Arrives x) in
+    if fieldsOf (st .table .registry) (x .parameter) .heading .new then o else
     outcome (o .answer) (record { table = o .state .table; store = st .store })))
 
--- every record counts one segment too many
-abbrev oneMore : Record → Record
-oneMore r = recordWith (r .kind) (r .cause) (r .key) (r .instruction) (r .segments + 1) (r .octets)
+-- an answer with these records at the front of its report
+abbrev reporting : Answer → List Record → Answer
+reporting a rs = answering (a .refusal) (length rs) (a .decision) (lending (splice (a .lent .report) 0 (recordsOctets rs)) (a .lent .area))
 
+-- the records of every receiving call are others
+abbrev recording : (Record → Record) → Machine
+recording f = stepping (λ st c.
+    let o : Outcome = step st c in
+    if eqb (o .answer .records) 0 then o else outcome (reporting (o .answer) (map f (recordsIn (o .answer)))) (o .state))
+
+-- every record counts one segment too many; one octet too many
 abbrev pub invents : Machine
-invents = stepping (λ st c. let o : Outcome = step st c in outcome (reporting (o .answer) (map oneMore (recordsIn (o .answer)))) (o .state))
+invents = recording (λ r. recordWith (r .kind) (r .cause) (r .key) (r .instruction) (r .segments + 1) (r .octets))
+
+abbrev pub inventsOctets : Machine
+inventsOctets = recording (λ r. recordWith (r .kind) (r .cause) (r .key) (r .instruction) (r .segments) (r .octets + 1))
+
+-- a loss of no octets has the kind of a delivery
+abbrev pub callsItDelivered : Machine
+callsItDelivered = recording (λ r. if eqb (r .octets) 0 then recordWith delivered (r .cause) (r .key) (r .instruction) (r .segments) 0 else r)
 
 -- it never refuses: what ours refuses it takes in silence
 abbrev pub neverRefuses : Machine
@@ -110,11 +130,9 @@ neverRefuses = stepping (λ st c. if accepted (checksOf st c) then step st c els
 
 -- it swallows an unsegmented parameter: accepted, and no record
 abbrev pub swallows : Machine
-swallows = whereAccepted (onSegment (λ st association s report.
-    let f : Fields = fieldsOf (st .table .registry) s in
-    if isAlone (f .heading .new) (f .heading .remaining .0)
-    then outcome (nothing 0 (Arrives association s report)) st
-    else step st (Arrives association s report)))
+swallows = whereAccepted (onSegment (λ st x.
+    let f : Fields = fieldsOf (st .table .registry) (x .parameter) in
+    if isAlone (f .heading .new) (f .heading .remaining .0) then outcome (nothing 0 (Arrives x)) st else step st (Arrives x)))
 
 -- on a save it hands out the place's stretch of the store
 abbrev tooSoon : Decision → List ℕ → List ℕ → List ℕ
@@ -126,6 +144,17 @@ tooSoon (Lost cause place) s store = delivery (Lost cause place) s store
 abbrev pub handsOutEarly : Machine
 handsOutEarly = record { step = step; deliver = tooSoon }
 
+-- for an answer that was made up it hands out as much of the store as that says
+abbrev tooMuch : Decision → List ℕ → List ℕ → List ℕ
+tooMuch Refused s store = delivery Refused s store
+tooMuch (Saved place) s store = delivery (Saved place) s store
+tooMuch (Delivered (OfParameter start n)) s store = delivery (Delivered (OfParameter start n)) s store
+tooMuch (Delivered (OfStore place n)) s store = take n (drop (placeStart place) store)
+tooMuch (Lost cause place) s store = delivery (Lost cause place) s store
+
+abbrev pub handsOutMore : Machine
+handsOutMore = record { step = step; deliver = tooMuch }
+
 -- a release with nothing open makes an empty loss: cause 7, no segment, no octet
 abbrev emptyLoss : ℕ → Record
 emptyLoss association =
@@ -134,37 +163,122 @@ emptyLoss association =
     0 0 0
 
 abbrev pub losesNothing : Machine
-losesNothing = whereAccepted (onRelease (λ st association report.
-    let o : Outcome = step st (Releases association report) in
-    if eqb (o .answer .records) 0 then outcome (reporting (o .answer) (emptyLoss association ∷ [])) (o .state) else o))
+losesNothing = whereAccepted (onRelease (λ st x.
+    let o : Outcome = step st (Releases x) in
+    if eqb (o .answer .records) 0 then outcome (reporting (o .answer) (emptyLoss (x .association) ∷ [])) (o .state) else o))
 
 -- a release ends nothing: accepted, and no record
 abbrev pub releasesNothing : Machine
-releasesNothing = whereAccepted (onRelease (λ st association report. outcome (nothing 0 (Releases association report)) st))
+releasesNothing = whereAccepted (onRelease (λ st x. outcome (nothing 0 (Releases x)) st))
 
--- THE ERRORS OF BOUGHT SOFTWARE
+-- a sending makes a record too
+abbrev pub recordsSending : Machine
+recordsSending = stepping (onSending (λ st x.
+    let a : Answer = step st (Sends x) .answer in
+    outcome (record { refusal = a .refusal; records = 1; decision = a .decision; count = a .count; length = a .length; lent = a .lent }) st))
 
--- the calls of a segment, as the rules have them but for two things: how the place of a key is found, and what is made of its effect
+-- THE RELEASE, as the rules have it but for the table that it leaves with nothing open
+abbrev pub emptying : (Table → Table) → Machine
+emptying change = whereAccepted (onRelease (λ st x.
+    let o : Outcome = step st (Releases x) in
+    if every isFree (o .state .table .places) then outcome (o .answer) (record { table = change (o .state .table); store = o .state .store }) else o))
+
+-- it clears the registry; T becomes 1; the clock goes back to 0
+abbrev pub clearsRegistry : Machine
+clearsRegistry = emptying (λ t. record { places = t .places; registry = registryWith []; timer = t .timer; clock = t .clock })
+
+abbrev pub movesTimer : Machine
+movesTimer = emptying (λ t. record { places = t .places; registry = t .registry; timer = 1; clock = t .clock })
+
+abbrev pub movesClock : Machine
+movesClock = emptying (λ t. record { places = t .places; registry = t .registry; timer = t .timer; clock = 0 })
+
+-- THE SENDER, as the rules have it but for the octets that it writes, by its table, its area, the kind and the rest
+abbrev Writing : Type 0
+Writing = Table → List ℕ → ℕ → Request → List ℕ → List ℕ → List ℕ → List ℕ
+
+abbrev pub sending : Writing → Machine
+sending write = whereAccepted (onSending (λ st x.
+    let q : Request = x .request in
+    let kind : ℕ = kindOf (st .table .registry) (q .context .0) in
+    let octets : List ℕ = write (st .table) (x .area) kind q (x .origin) (x .destination) (x .whole) in
+    afterSending st (record {
+      answer = record { refusal = 0; count = countOf (headerLength kind (q .context .0) (x .origin) (x .destination)) q (length (x .whole)); length = length octets };
+      area = splice (x .area) 0 octets;
+    })))
+
+abbrev pub asRuled : Writing
+asRuled t area kind q o d whole = segmentOctets kind q o d whole
+
+-- the destination is left out
+abbrev pub leavesOut : Machine
+leavesOut = sending (λ t area kind q o d whole.
+    let h : ℕ = headerLength kind (q .context .0) o d in
+    parameterOctets (headingFor kind h q (length whole)) o [] (carried h q whole))
+
+-- a spare bit of octet 2 is set
+abbrev pub setsSpare : Machine
+setsSpare = sending (λ t area kind q o d whole.
+    let l : List ℕ = segmentOctets kind q o d whole in
+    let i : ℕ = length (contextOctets (q .context .0)) in
+    set l i (getD l i 0 + 4))
+
+-- the first of several carries so many octets, and the later ones follow on
+abbrev cutAt : ℕ → ℕ → Request → List ℕ → List ℕ → List ℕ → List ℕ
+cutAt a kind q o d whole =
+    let h : ℕ = headerLength kind (q .context .0) o d in
+    parameterOctets (headingFor kind h q (length whole)) o d
+    (if isSegmented h q (length whole) then stretchOf a (laterCarries h q) whole (q .number) else whole)
+
+-- one more than its room has; one less where the clock is odd, so that segments cut at two times do not fit together
+abbrev pub cutsPast : Machine
+cutsPast = sending (λ t area kind q o d whole. cutAt (firstCarries (headerLength kind (q .context .0) o d) q + 1) kind q o d whole)
+
+abbrev pub cutsByClock : Machine
+cutsByClock = sending (λ t area kind q o d whole. cutAt (firstCarries (headerLength kind (q .context .0) o d) q - t .clock % 2) kind q o d whole)
+
+-- nonsense, in an area that would not hold every parameter
+abbrev pub writesNonsense : Machine
+writesNonsense = sending (λ t area kind q o d whole.
+    let l : List ℕ = segmentOctets kind q o d whole in
+    if ltb (length area) parameterMost then replicate (length l) 0 else l)
+
+-- THE CALLS OF A SEGMENT, as the rules have them but for four things: how the place of a key is found and one for a new sequence chosen, which line applies, and what is made of
+-- its effect
 abbrev Finding : Type 0
 Finding = Key → List Place → Found
+
+abbrev Choosing : Type 0
+Choosing = List Place → Found
+
+abbrev Deciding : Type 0
+Deciding = Bool → ℕ → ℕ → Heading → ℕ → Line
 
 abbrev Changing : Type 0
 Changing = Line → Table → Fields → Found → Place → Effect → Effect
 
-abbrev pub joining : Finding → Changing → Machine
-joining find change = whereAccepted (onSegment (λ st association s report.
-    let f : Fields = fieldsOf (st .table .registry) s in
-    let key : Key = keyOf association s f in
-    let octets : List ℕ = informationOf s f in
+abbrev pub joining : Finding → Choosing → Deciding → Changing → Machine
+joining find choose decide change = whereAccepted (onSegment (λ st x.
+    let f : Fields = fieldsOf (st .table .registry) (x .parameter) in
+    let key : Key = keyOf (x .association) (x .parameter) f in
+    let octets : List ℕ = informationOf (x .parameter) f in
     let place : Found = find key (st .table .places) in
     let p : Place = placeAt (st .table .places) place in
-    let line : Line = lineOf (isAt place) (p .remaining .0) (p .octets) (f .heading) (length octets) in
-    let e : Effect = effectOf line (st .table) (st .store) key f octets place p (lowestFree (st .table .places)) in
-    let r : Reception = receptionOf (st .table) report (change line (st .table) f place p e) in
-    ofReceived (r .answer) (r .store) (r .report)))
+    let line : Line = decide (isAt place) (p .remaining .0) (p .octets) (f .heading) (length octets) in
+    let e : Effect = effectOf line (st .table) (st .store) key f octets place p (choose (st .table .places)) in
+    afterSegment (receptionOf (st .table) (x .report) (change line (st .table) f place p e))))
 
 abbrev pub unchanged : Changing
 unchanged line t f place p e = e
+
+abbrev finding : Finding → Machine
+finding find = joining find lowestFree lineOf unchanged
+
+abbrev deciding : Deciding → Machine
+deciding decide = joining placeOf lowestFree decide unchanged
+
+abbrev changing : Changing → Machine
+changing change = joining placeOf lowestFree lineOf change
 
 -- two keys with the same association, context and reference; their addresses are for another test
 abbrev sameBut : (Key → Key → Bool) → Finding
@@ -178,19 +292,48 @@ abbrev addressNumber : Key → ℕ
 addressNumber k = number (take (k .length) (k .address))
 
 abbrev pub comparesNumbers : Machine
-comparesNumbers = joining (sameBut (λ a b. eqb (addressNumber a) (addressNumber b))) unchanged
+comparesNumbers = finding (sameBut (λ a b. eqb (addressNumber a) (addressNumber b)))
 
 -- addresses are compared without their length: 07 and 07 00 are one
 abbrev pub comparesFilled : Machine
-comparesFilled = joining (sameBut (λ a b. sameOctets (a .address) (b .address))) unchanged
+comparesFilled = finding (sameBut (λ a b. sameOctets (a .address) (b .address)))
 
-abbrev isRestart : Line → Bool
-isRestart Unsegmented = false
-isRestart (Broken cause) = false
-isRestart Restart = true
-isRestart Start = false
-isRestart Final = false
-isRestart Next = false
+-- a new sequence goes to the highest free place
+abbrev highestFrom : List Place → ℕ → Found → Found
+highestFrom [] i best = best
+highestFrom (p ∷ ps) i best = highestFrom ps (i + 1) (if isFree p then At i else best)
+
+abbrev pub takesHighest : Machine
+takesHighest = joining placeOf (λ ps. highestFrom ps 0 Nothing) lineOf unchanged
+
+-- an empty later segment is lost with cause 2
+abbrev emptyLost : ℕ → Line → Line
+emptyLost n Unsegmented = Unsegmented
+emptyLost n (Broken cause) = Broken cause
+emptyLost n Restart = Restart
+emptyLost n Start = Start
+emptyLost n Final = if eqb n 0 then Broken 2 else Final
+emptyLost n Next = if eqb n 0 then Broken 2 else Next
+
+abbrev pub losesEmpty : Machine
+losesEmpty = deciding (λ isOpen before saved g n. emptyLost n (lineOf isOpen before saved g n))
+
+-- a last segment delivers over a gap
+abbrev pub joinsOverGap : Machine
+joinsOverGap = deciding (λ isOpen before saved g n. if not (g .new) && isOpen && eqb (g .remaining .0) 0 then Final else lineOf isOpen before saved g n)
+
+-- causes 1 and 2, and 4 and 5, are exchanged
+abbrev exchanged : Line → Line
+exchanged Unsegmented = Unsegmented
+exchanged (Broken cause) =
+    Broken (if eqb cause 1 then 2 else if eqb cause 2 then 1 else if eqb cause 4 then 5 else 4)
+exchanged Restart = Restart
+exchanged Start = Start
+exchanged Final = Final
+exchanged Next = Next
+
+abbrev pub exchangesCauses : Machine
+exchangesCauses = deciding (λ isOpen before saved g n. exchanged (lineOf isOpen before saved g n))
 
 abbrev isBroken : Line → Bool
 isBroken Unsegmented = false
@@ -216,35 +359,33 @@ leaving e ps = record { decision = e .decision; records = e .records; places = p
 
 -- a restart loses the new first segment too: its place is freed
 abbrev pub dropsRestart : Machine
-dropsRestart = joining placeOf (λ line t f place p e. if isRestart line then leaving e (putPlace (t .places) place freePlace) else e)
+dropsRestart = changing (λ line t f place p e. if isRestart line then leaving e (putPlace (t .places) place freePlace) else e)
 
 -- a loss counts what was saved, and not the segment that broke the sequence
 abbrev savedAlone : Place → Record → Record
 savedAlone p r = recordWith (r .kind) (r .cause) (r .key) (r .instruction) (p .segments) (p .octets)
 
 abbrev pub countsSaved : Machine
-countsSaved = joining placeOf (λ line t f place p e. if isBroken line then withRecords e (map (savedAlone p) (e .records)) else e)
+countsSaved = changing (λ line t f place p e. if isBroken line then withRecords e (map (savedAlone p) (e .records)) else e)
 
 -- a loss has the instruction of the segment that broke the sequence
 abbrev withInstruction : ℕ → Record → Record
 withInstruction instruction r = recordWith (r .kind) (r .cause) (r .key) instruction (r .segments) (r .octets)
 
 abbrev pub tellsLast : Machine
-tellsLast = joining placeOf (λ line t f place p e. if isBroken line then withRecords e (map (withInstruction (f .heading .instruction)) (e .records)) else e)
+tellsLast = changing (λ line t f place p e. if isBroken line then withRecords e (map (withInstruction (f .heading .instruction)) (e .records)) else e)
 
 -- each segment starts the timer anew
 abbrev startedAt : ℕ → Place → Place
 startedAt time p = openPlace (p .key) (p .remaining) (p .instruction) (p .segments) (p .octets) time
 
 abbrev pub startsAnew : Machine
-startsAnew = joining placeOf (λ line t f place p e.
+startsAnew = changing (λ line t f place p e.
     if isNext line then leaving e (putPlace (e .places) place (startedAt (t .clock) (placeAt (e .places) place))) else e)
 
--- the clock's calls, as the rules have them but for the test of what is due
+-- THE CLOCK'S CALLS, as the rules have them but for the test of what is due
 abbrev pub sweeping : (ℕ → ℕ → Place → Bool) → Machine
-sweeping due = whereAccepted (onClock (λ st time report.
-    let o : Sweeping = sweep (due time (st .table .timer)) 6 time (st .table) report in
-    ofSwept st (o .answer) (o .report)))
+sweeping due = whereAccepted (onClock (λ st x. afterSweep (st .store) (sweep (due (x .time) (st .table .timer)) 6 (x .time) (st .table) (x .report))))
 
 -- an age is the new time less the old by plain subtraction, which the clock's turn makes 0
 abbrev pub subtractsPlainly : Machine

@@ -1,13 +1,13 @@
 -- The loopback by the rules: what is refused is left as it came, and what is not comes back.
 use Prim.Native.Nat.{ℕ, zero, suc, _+_, _-_, _≤_, _<_, _^_}
 use mathlib.Core.Path.{_≡_, refl, sym, ap, _∙_, subst}
-use mathlib.Core.Bool.{Bool, true, false, not, _||_, or-true, and-eq-true-iff}
+use mathlib.Core.Bool.{Bool, true, false, not, or-true, and-eq-true-iff}
 use mathlib.Core.List.{List, [], _∷_, _++_}
 use native.Mathlib.Omega.{arith}
 use native.Mathlib.Nat.{add-zero, zero-add, add-suc, suc-add}
 use borrow.Author.Tests.{not-true, not-false, ltb-false, le-ltb, lt-leb}
 use lib.ListN.{length, take}
-use Rattle.octets.proofs.Splice.{splice-length}
+use Rattle.octets.proofs.Splice.{splice-length, splice-back}
 use Rattle.rules.specs.Numbers.{storeLeast, parameterMost}
 use Rattle.rules.specs.Refusals.{Check, accepted, first, judged}
 use Rattle.rules.specs.Records.{recordLength}
@@ -15,9 +15,9 @@ use Rattle.rules.specs.Places.{lowestFree, placeOf, isAt}
 use Rattle.rules.specs.Soundness.{sound}
 use Rattle.rules.specs.Delivery.{delivery}
 use Rattle.rules.specs.Receiving.{Reception, segment}
-use Rattle.rules.specs.Sending.{segmentOctets, sendingChecks, sending}
+use Rattle.rules.specs.Sending.{sendingChecks, sending}
 use Rattle.rules.specs.Sending as rule
-use Rattle.rules.specs.Calls.{State, Arrives, step}
+use Rattle.rules.specs.Calls.{State, toArrive, Answer, step}
 use Rattle.rules.specs.Promises.{OfSending}
 use Rattle.rules.specs.declared.Table.{Table}
 use Rattle.rules.specs.declared.Request.{Request}
@@ -27,12 +27,13 @@ use Rattle.rules.proofs.Refusals.{Sharp, judged-append, judged-by, judged-first
 use Rattle.rules.proofs.Answers.{segment-by}
 use Rattle.rules.proofs.Cutting.{sendable, within-room, count-two, later-carries, first-leaves}
 use Rattle.demands.specs.Machine.{ours, Typed}
-use Rattle.demands.specs.Demand2.{Sending, numbered, kindIn, keyIn, header, countIn, segmentedIn, Sendable, sentBy, Meanwhile, stop, mine, other, Returns, RoundTrip}
+use Rattle.demands.specs.Seen.{seenBy}
+use Rattle.demands.specs.Demand2.{Sending, numbered, header, countIn, segmentedIn, segmentOf, Sender, Sendable, keyIn, arrivalOf, Meanwhile, stop, mine, other, Returns, HasRoom, RoundTrip}
 use Rattle.demands.proofs.Index.{demand-2}
-use Rattle.course.specs.Laps.{Lap, lap, laps, standing, lapOf, OfLap, OfReceipt}
+use Rattle.course.specs.Laps.{Asked, Lap, lap, laps, standing, lapOf, OfLap, OfReceipt}
 use Rattle.course.specs.declared.Looped.{Looped}
 use Rattle.course.proofs.Laps.{one-lap}
-use Rattle.loopback.specs.Loopback.{fitChecks, loopChecks, Looping, looping, OfLoopback}
+use Rattle.loopback.specs.Loopback.{sendingIn, fitChecks, loopChecks, Looping, looping, OfLoopback}
 
 -- no check has the number 0
 some : (n : ℕ) → suc n ≡ 0 → ⊥
@@ -50,25 +51,20 @@ sharp-both [] ys a b = b
 sharp-both (x ∷ xs) ys a b = (a .0, sharp-both xs ys (a .1) b)
 
 -- where sending segment 0 is not refused, no segment is, in an area that any parameter fits
-module _ (x : Sending) (area : List ℕ)
+module _ (x : Asked) (area : List ℕ)
     (ok : accepted (sendingChecks (x .table) (numbered (x .request) 0) (x .origin) (x .destination) (x .whole) area) ≡ true) where
-  abbrev octets : ℕ → List ℕ
-  octets k = segmentOctets (kindIn x) (numbered (x .request) k) (x .origin) (x .destination) (x .whole)
-
-  also : (k : ℕ) → k < countIn x → (area′ : List ℕ) → length (octets k) ≤ length area′
+  also : (k : ℕ) → k < countIn (sendingIn x) → (area′ : List ℕ) → length (segmentOf (sendingIn x) k) ≤ length area′
       → accepted (sendingChecks (x .table) (numbered (x .request) k) (x .origin) (x .destination) (x .whole) area′) ≡ true
   unfolding sendingChecks
   also k under area′ fits =
       let all = simp and-eq-true-iff at ok in
       let room = all .1 .1 .1 .1 in
-      let below = ap not (lt-leb (countIn x) k under) in
-      let inside = ap not (le-ltb (length area′) (length (octets k)) fits) in
+      let below = ap not (lt-leb (countIn (sendingIn x)) k under) in
+      let inside = ap not (le-ltb (length area′) (length (segmentOf (sendingIn x) k)) fits) in
       simp and-eq-true-iff (all .0, (all .1 .0, (all .1 .1 .0, (all .1 .1 .1 .0, (room .0, (room .1 .0, (room .1 .1 .0, (room .1 .1 .1 .0, (below, (inside, refl))))))))))
 
-  sendable-all : Sendable x
-  sendable-all k under area′ wide =
-      let fits = within-room (x .table) (numbered (x .request) k) (x .origin) (x .destination) (x .whole) (octets k) (also k under (octets k) (omega arith)) .parameter in
-      also k under area′ (omega arith)
+  segment-most : (k : ℕ) → k < countIn (sendingIn x) → length (segmentOf (sendingIn x) k) ≤ parameterMost
+  segment-most k under = within-room _ _ _ _ _ _ (also k under (segmentOf (sendingIn x) k) (omega arith)) .parameter
 
 -- the areas keep their lengths
 sending-length : (t : Table) (q : Request) (o d whole area : List ℕ) → length (sending t q o d whole area .area) ≡ length area
@@ -82,13 +78,17 @@ report-length t store report association s =
     segment-by (λ (r : Reception). length (r .report) ≡ length report) t store report association s (λ e. splice-length report 0 _) (λ e. refl)
 
 -- segments that arrive one after the other
-more : {x : Sending} {areas : ℕ → List ℕ} {st st′ : State} {i j : ℕ} → Meanwhile ours x areas st i st′ j → (report : List ℕ) → recordLength ≤ length report
-    → Meanwhile ours x areas st i (step st′ (Arrives (x .association) (sentBy ours x areas j) report) .state) (suc j)
+more : {x : Sending} {st st′ : State} {i j : ℕ} → Meanwhile ours x st i st′ j → (report : List ℕ) → recordLength ≤ length report
+    → Meanwhile ours x st i (step st′ (arrivalOf x j report) .state) (suc j)
 more stop report room = mine report room stop
 more (mine again wide rest) report room = mine again wide (more rest report room)
 more (other c range spares rest) report room = other c range spares (more rest report room)
 
-module _ (x : Sending) (store report area : List ℕ) where
+module _ (x : Asked) (store report area : List ℕ) where
+  -- what goes out
+  abbrev out : Sending
+  out = sendingIn x
+
   abbrev start : Lap
   start = standing (x .table) store report area
 
@@ -116,16 +116,12 @@ module _ (x : Sending) (store report area : List ℕ) where
   report-at zero = refl
   report-at (suc k) = report-length (at k .table) (at k .store) (at k .report) (x .association) _ ∙ report-at k
 
-  abbrev areas : ℕ → List ℕ
-  areas k = at k .area
-
   abbrev state : ℕ → State
   state k = record { table = at k .table; store = at k .store }
 
-  meanwhile : (j : ℕ) → recordLength ≤ length report → Meanwhile ours x areas (state 1) 1 (state (suc j)) (suc j)
-  unfolding step at
-  meanwhile zero room = stop
-  meanwhile (suc j) room = more (meanwhile j room) (at (suc j) .report) (rw (report-at (suc j)) room)
+  -- segment k is sent from the table as it came, which needs no store
+  abbrev from : ℕ → Sender
+  from k = record { state = record { table = x .table; store = [] }; area = at k .area }
 
   module _ (ok : accepted (loopChecks x store report area) ≡ true) (typed : Typed (x .table)) (carrier : x .association < 2 ^ 16) where
     both : (accepted (fitChecks (x .table) (length store) (length report) (length area)) ≡ true)
@@ -153,39 +149,65 @@ module _ (x : Sending) (store report area : List ℕ) where
           free = not-false _ (not-true _ (all .1 .1 .1 .1 .0));
         }
 
-    trip : RoundTrip ours x (state 0) areas report
+    fits-at : (k : ℕ) → k < countIn out → length (segmentOf out k) ≤ length (at k .area)
+    fits-at k under = omega (arith, segment-most x area (both .1) k under, area-at k, fit .wide)
+
+    can : (k : ℕ) → k < countIn out → Sendable out (from k) k
+    can k under = record { kind = refl; good = also x area (both .1) k under (at k .area) (fits-at k under) }
+
+    -- what is handed to the receiver is the segment
+    sent-is : (k : ℕ) → k < countIn out → take (at (suc k) .length) (at (suc k) .area) ≡ segmentOf out k
+    unfolding step at
+    sent-is k under =
+        let made = demand-2 .made out (from k) k (can k under) in
+        let size = ap (λ (a : Answer). a .length) (made .answer) in
+        let written = ap (λ (a : Answer). a .lent .area) (made .answer) in
+        rw (size, written) (splice-back (at k .area) 0 (segmentOf out k) (omega (arith, fits-at k under)))
+
+    state-is : (k : ℕ) → k < countIn out → step (state k) (arrivalOf out k (at k .report)) .state ≡ state (suc k)
+    unfolding step at
+    state-is k under = ap (λ (p : List ℕ). step (state k) (toArrive (x .association) p (at k .report)) .state) (sym (sent-is k under))
+
+    trip : RoundTrip ours out (state 0) report
     unfolding at
     trip =
-        demand-2 .back x (sendable-all x area (both .1)) (state 0) (fit .good) typed refl (fit .stores) areas
-        (λ k. rw (area-at k) (fit .wide)) report (fit .reports) carrier
+        demand-2 .back out from can (state 0) (record { sound = fit .good; typed = typed; kind = refl; store = fit .stores; carrier = carrier })
+        report (fit .reports)
 
-    last-hands : (j : ℕ) → suc j ≡ countIn x → Returns ours x (state j) (sentBy ours x areas j) (at j .report) → handed (at (countIn x)) ≡ x .whole
+    meanwhile : (j : ℕ) → j < countIn out → Meanwhile ours out (step (state 0) (arrivalOf out 0 report) .state) 1 (state (suc j)) (suc j)
+    unfolding at
+    meanwhile zero under = rw (sym (state-is 0 under)) stop
+    meanwhile (suc j) under =
+        rw (sym (state-is (suc j) under)) (more (meanwhile j (omega arith)) (at (suc j) .report) (rw (report-at (suc j)) (fit .reports)))
+
+    last-hands : (j : ℕ) → suc j ≡ countIn out → Returns out (seenBy ours (state j) (arrivalOf out j (at j .report))) → handed (at (countIn out)) ≡ x .whole
     unfolding step at
-    last-hands j e r = subst (λ (n : ℕ). handed (at n) ≡ x .whole) e (r .handed)
+    last-hands j e r =
+        let got : List ℕ → Reception = λ p. segment (at j .table) (at j .store) (at j .report) (x .association) p in
+        subst (λ (n : ℕ). handed (at n) ≡ x .whole) e
+        (ap (λ (p : List ℕ). delivery (got p .answer .decision) p (got p .store)) (sent-is j (omega arith)) ∙ r .handed)
 
-    two-least : segmentedIn x ≡ true → 2 ≤ countIn x
+    two-least : segmentedIn out ≡ true → 2 ≤ countIn out
     two-least e =
-        let t = x .table in
-        let q = numbered (x .request) 0 in
-        count-two (header x) (x .request) (length (x .whole)) e (later-carries t q (x .origin) (x .destination) (x .whole) area (both .1) e)
-        (first-leaves t q (x .origin) (x .destination) (x .whole) area (both .1) e)
+        count-two (header out) (x .request) (length (x .whole)) e (later-carries _ _ _ _ _ _ (both .1) e) (first-leaves _ _ _ _ _ _ (both .1) e)
 
-    free-first : (isAt (placeOf (keyIn x) (x .table .places)) || isAt (lowestFree (x .table .places))) ≡ true
-    free-first = rw (fit .free) (or-true (isAt (placeOf (keyIn x) (x .table .places))))
+    free-first : HasRoom out (state 0)
+    unfolding at
+    free-first = rw (fit .free) (or-true (isAt (placeOf (keyIn out) (x .table .places))))
 
-    back-by : (b : Bool) → segmentedIn x ≡ b → handed (at (countIn x)) ≡ x .whole
-    unfolding at step
+    back-by : (b : Bool) → segmentedIn out ≡ b → handed (at (countIn out)) ≡ x .whole
+    unfolding at
     back-by false e = last-hands 0 (sym (simp e)) (trip .alone e)
     back-by true e =
         let two = two-least e in
-        let j : ℕ = countIn x - 2 in
-        let last : suc (suc j) ≡ countIn x = omega arith in
+        let j : ℕ = countIn out - 2 in
+        let last : suc (suc j) ≡ countIn out = omega arith in
         last-hands (suc j) last
-        (trip .later e free-first (suc j) (omega arith) (state (suc j)) (meanwhile j (fit .reports)) (at (suc j) .report) (rw (report-at (suc j)) (fit .reports)) .1 last)
+        (trip .later e free-first (suc j) (omega arith) (state (suc j)) (meanwhile j (omega arith)) (at (suc j) .report) (rw (report-at (suc j)) (fit .reports)) .1 last)
 
-    pub back : handed (laps (countIn x) 0 x start) ≡ x .whole
+    pub back : handed (laps (countIn out) 0 x start) ≡ x .whole
     unfolding at
-    back = ap handed (laps-at (countIn x) 0) ∙ rw zero-add (back-by (segmentedIn x) refl)
+    back = ap handed (laps-at (countIn out) 0) ∙ rw zero-add (back-by (segmentedIn out) refl)
 
   abbrev fits : List Check
   fits = fitChecks (x .table) (length store) (length report) (length area)
@@ -204,7 +226,7 @@ module _ (x : Sending) (store report area : List ℕ) where
   unfolding looping loopChecks
   looping-unfit n e nonzero = judged-append fits sends unmoved _ ∙ judged-first fits unmoved _ (λ z. nonzero (e ∙ z)) ∙ rw (sym e)
 
-  looping-fit : first fits ≡ 0 → looping x store report area ≡ judged sends unmoved (record { number = 0; lap = laps (countIn x) 0 x start })
+  looping-fit : first fits ≡ 0 → looping x store report area ≡ judged sends unmoved (record { number = 0; lap = laps (countIn out) 0 x start })
   unfolding looping loopChecks
   looping-fit e = judged-append fits sends unmoved _ ∙ judged-none fits unmoved _ (fit-sharp (x .table) (length store) (length report) (length area)) e
 
@@ -229,14 +251,14 @@ module _ (x : Sending) (store report area : List ℕ) where
       (λ n. record { answer = record { refusal = n; count = 0; length = 0 }; area = area }) _ (λ ok z. ok)
       (λ no z. first-accepted sends (sending-sharp (x .table) (numbered (x .request) 0) (x .origin) (x .destination) (x .whole) area) z)
 
-  pub sent-count : sent .answer .refusal ≡ 0 → sent .answer .count ≡ countIn x
+  pub sent-count : sent .answer .refusal ≡ 0 → sent .answer .count ≡ countIn out
   unfolding sending
   sent-count z = rw (sends-accepted z)
 
-  pub count-some : sent .answer .refusal ≡ 0 → 1 ≤ countIn x
+  pub count-some : sent .answer .refusal ≡ 0 → 1 ≤ countIn out
   count-some z = let n = sendable (x .table) (numbered (x .request) 0) (x .origin) (x .destination) (x .whole) area (sends-accepted z) .number in omega arith
 
-  pub looping-done : first fits ≡ 0 → sent .answer .refusal ≡ 0 → looping x store report area ≡ record { number = 0; lap = laps (countIn x) 0 x start }
+  pub looping-done : first fits ≡ 0 → sent .answer .refusal ≡ 0 → looping x store report area ≡ record { number = 0; lap = laps (countIn out) 0 x start }
   looping-done e z =
       looping-fit e ∙ judged-none sends unmoved _ (sending-sharp (x .table) (numbered (x .request) 0) (x .origin) (x .destination) (x .whole) area)
       (accepted-first sends (sends-accepted z))
@@ -255,7 +277,7 @@ module _ (x : Sending) (store report area : List ℕ) where
         judged-by (λ (o : Looping). o .number ≡ first (loopChecks x store report area)) (loopChecks x store report area) unmoved _
         (λ ok. sym (accepted-first (loopChecks x store report area) ok)) (λ no. refl)
 
-    done : accepted (loopChecks x store report area) ≡ true → looping x store report area .lap ≡ laps (countIn x) 0 x start
+    done : accepted (loopChecks x store report area) ≡ true → looping x store report area .lap ≡ laps (countIn out) 0 x start
     unfolding looping
     done ok = rw ok
 
@@ -308,7 +330,7 @@ module _ (x : Sending) (store report area : List ℕ) where
     kept-done typed carrier fit z one store1 report1 got answer store2 report2 area2 all =
         let r = sym refusal-is ∙ z in
         let n = count-some r in
-        let e : countIn x ≡ suc (s .count - 1) = let c = count-is ∙ sent-count r in omega arith in
+        let e : countIn out ≡ suc (s .count - 1) = let c = count-is ∙ sent-count r in omega arith in
         let o = looping-done fit r in
         let first-lap = one-lap x 0 (x .table) store report area area′ q s one store1 report1 asked-for k got .lapped in
         let after : laps (suc (s .count - 1)) 0 x start ≡ laps (s .count - 1) 1 x (lap x 0 start) = refl in

@@ -8,14 +8,27 @@ use lib.ListN.{length, take}
 use Rattle.rules.specs.Numbers.{storeLeast, parameterMost}
 use Rattle.rules.specs.Refusals.{Check, _when_, accepted, judged}
 use Rattle.rules.specs.Records.{recordLength}
+use Rattle.rules.specs.Registry.{kindOf}
 use Rattle.rules.specs.Places.{lowestFree, isAt}
 use Rattle.rules.specs.Soundness.{sound}
 use Rattle.rules.specs.Delivery.{delivery}
 use Rattle.rules.specs.Sending.{sendingChecks}
 use Rattle.rules.specs.declared.Table.{Table}
 use Rattle.demands.specs.Demand2.{Sending, numbered, countIn}
-use Rattle.course.specs.Laps.{Lap, laps, standing}
+use Rattle.course.specs.Laps.{Asked, Lap, laps, standing}
 use Rattle.course.specs.declared.Looped.{Looped}
+
+-- what is sent, as demand 2 has it
+abbrev pub sendingIn : Asked → Sending
+sendingIn x =
+    record {
+      request = x .request;
+      origin = x .origin;
+      destination = x .destination;
+      whole = x .whole;
+      kind = kindOf (x .table .registry) (x .request .context .0);
+      association = x .association;
+    }
 
 -- the conditions: the table is sound, the areas are long enough for any segment and its record, a place is free, and none of sending's own applies
 abbrev pub fitChecks : Table → ℕ → ℕ → ℕ → List Check
@@ -26,7 +39,7 @@ fitChecks t store report area =
     20 when ltb area parameterMost ∷
     10 when not (isAt (lowestFree (t .places))) ∷ []
 
-unfoldable pub loopChecks : Sending → List ℕ → List ℕ → List ℕ → List Check
+unfoldable pub loopChecks : Asked → List ℕ → List ℕ → List ℕ → List Check
 loopChecks x store report area =
     fitChecks (x .table) (length store) (length report) (length area)
     ++ sendingChecks (x .table) (numbered (x .request) 0) (x .origin) (x .destination) (x .whole) area
@@ -36,17 +49,17 @@ pub record Looping : Type 0 where
   pub lap : Lap
 
 -- refused by the first condition that fails, with nothing changed; or all segments
-unfoldable pub looping : Sending → List ℕ → List ℕ → List ℕ → Looping
+unfoldable pub looping : Asked → List ℕ → List ℕ → List ℕ → Looping
 looping x store report area =
     judged (loopChecks x store report area)
     (λ n. record { number = n; lap = standing (x .table) store report area })
-    (record { number = 0; lap = laps (countIn x) 0 x (standing (x .table) store report area) })
+    (record { number = 0; lap = laps (countIn (sendingIn x)) 0 x (standing (x .table) store report area) })
 
 -- the answer by value
 abbrev pub loopedOf : Looping → Looped
 loopedOf o = record { table = o .lap .table; decision = o .lap .decision; length = o .lap .length; number = o .number }
 
-pub record OfLoopback (x : Sending) (store report area : List ℕ) (answer : Looped) (store′ report′ area′ : List ℕ) : Type 0 where
+pub record OfLoopback (x : Asked) (store report area : List ℕ) (answer : Looped) (store′ report′ area′ : List ℕ) : Type 0 where
   pub answered : answer ≡ loopedOf (looping x store report area)
   pub stored : store′ ≡ looping x store report area .lap .store
   pub reported : report′ ≡ looping x store report area .lap .report

@@ -17,3 +17,4 @@ pub mod Answers
 pub mod Lines
 pub mod Apart
 pub mod Soundness
+pub mod Own

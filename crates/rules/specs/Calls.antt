@@ -1,6 +1,6 @@
 -- Which calls there are, and what each does to the state that is handed on from call to call: the table and the lent store.
 use Prim.Native.Nat.{ℕ}
-use mathlib.Core.List.{List}
+use mathlib.Core.List.{List, []}
 use Rattle.rules.specs.Receiving.{Reception, segment}
 use Rattle.rules.specs.Sweep.{Sweeping, clock, release}
 use Rattle.rules.specs.Opening.{opening}
@@ -15,59 +15,113 @@ pub record State : Type 0 where
   pub table : Table
   pub store : List ℕ
 
--- an opening (registry, T, clock); a segment (association, parameter), the clock (time) and a release (association), each with a report area; a sending (request,
--- originating and destination address, data) with its area
-pub data Call : Type 0 where
-  Opens : List ℕ → ℕ → ℕ → Call
-  Arrives : ℕ → List ℕ → List ℕ → Call
-  Ticks : ℕ → List ℕ → Call
-  Releases : ℕ → List ℕ → Call
-  Sends : Request → List ℕ → List ℕ → List ℕ → List ℕ → Call
+-- what each call is given: its arguments, and the area that it lends beside the store
+pub record Opening : Type 0 where
+  pub registry : List ℕ
+  pub timer : ℕ
+  pub time : ℕ
 
--- all that a call answers: what it has no part in is 0; lent is the report area or the sender's area after it
+pub record Arrival : Type 0 where
+  pub association : ℕ
+  pub parameter : List ℕ
+  pub report : List ℕ
+
+pub record Tick : Type 0 where
+  pub time : ℕ
+  pub report : List ℕ
+
+pub record Release : Type 0 where
+  pub association : ℕ
+  pub report : List ℕ
+
+pub record Dispatch : Type 0 where
+  pub request : Request
+  pub origin : List ℕ
+  pub destination : List ℕ
+  pub whole : List ℕ
+  pub area : List ℕ
+
+pub data Call : Type 0 where
+  Opens : Opening → Call
+  Arrives : Arrival → Call
+  Ticks : Tick → Call
+  Releases : Release → Call
+  Sends : Dispatch → Call
+
+-- the calls, each made in one place
+abbrev pub toOpen : List ℕ → ℕ → ℕ → Call
+toOpen registry timer time = Opens (record { registry = registry; timer = timer; time = time })
+
+abbrev pub toArrive : ℕ → List ℕ → List ℕ → Call
+toArrive association s report = Arrives (record { association = association; parameter = s; report = report })
+
+abbrev pub toTick : ℕ → List ℕ → Call
+toTick time report = Ticks (record { time = time; report = report })
+
+abbrev pub toRelease : ℕ → List ℕ → Call
+toRelease association report = Releases (record { association = association; report = report })
+
+abbrev pub toSend : Request → List ℕ → List ℕ → List ℕ → List ℕ → Call
+toSend q o d whole area = Sends (record { request = q; origin = o; destination = d; whole = whole; area = area })
+
+-- the areas that are lent beside the store: for records, and for a segment that is sent; one that a call does not lend has no octets
+pub record Lent : Type 0 where
+  pub report : List ℕ
+  pub area : List ℕ
+
+abbrev pub lending : List ℕ → List ℕ → Lent
+lending report area = record { report = report; area = area }
+
+abbrev pub lentOf : Call → Lent
+lentOf (Opens x) = lending [] []
+lentOf (Arrives x) = lending (x .report) []
+lentOf (Ticks x) = lending (x .report) []
+lentOf (Releases x) = lending (x .report) []
+lentOf (Sends x) = lending [] (x .area)
+
+-- all that a call answers, with the areas after it; what it has no part in is 0
 pub record Answer : Type 0 where
   pub refusal : ℕ
   pub records : ℕ
   pub decision : Decision
   pub count : ℕ
   pub length : ℕ
-  pub lent : List ℕ
+  pub lent : Lent
+
+abbrev pub answering : ℕ → ℕ → Decision → Lent → Answer
+answering refusal records decision lent = record { refusal = refusal; records = records; decision = decision; count = 0; length = 0; lent = lent }
 
 pub record Outcome : Type 0 where
   pub answer : Answer
   pub state : State
 
-abbrev afterSegment : Reception → Outcome
+abbrev pub afterOpening : List ℕ → Opened → Outcome
+afterOpening store o = record { answer = answering (o .refusal) 0 Refused (lending [] []); state = record { table = o .table; store = store } }
+
+abbrev pub afterSegment : Reception → Outcome
 afterSegment o =
     record {
-      answer = record { refusal = o .answer .refusal; records = o .answer .records; decision = o .answer .decision; count = 0; length = 0; lent = o .report };
+      answer = answering (o .answer .refusal) (o .answer .records) (o .answer .decision) (lending (o .report) []);
       state = record { table = o .answer .table; store = o .store };
     }
 
-abbrev afterSweep : List ℕ → Sweeping → Outcome
+abbrev pub afterSweep : List ℕ → Sweeping → Outcome
 afterSweep store o =
     record {
-      answer = record { refusal = o .answer .refusal; records = o .answer .records; decision = Refused; count = 0; length = 0; lent = o .report };
+      answer = answering (o .answer .refusal) (o .answer .records) Refused (lending (o .report) []);
       state = record { table = o .answer .table; store = store };
     }
 
-abbrev afterOpening : List ℕ → Opened → Outcome
-afterOpening store o =
-    record {
-      answer = record { refusal = o .refusal; records = 0; decision = Refused; count = 0; length = 0; lent = mathlib.Core.List.[] };
-      state = record { table = o .table; store = store };
-    }
-
-abbrev afterSending : State → Sending → Outcome
+abbrev pub afterSending : State → Sending → Outcome
 afterSending st o =
     record {
-      answer = record { refusal = o .answer .refusal; records = 0; decision = Refused; count = o .answer .count; length = o .answer .length; lent = o .area };
+      answer = record { refusal = o .answer .refusal; records = 0; decision = Refused; count = o .answer .count; length = o .answer .length; lent = lending [] (o .area) };
       state = st;
     }
 
 unfoldable pub step : State → Call → Outcome
-step st (Opens registry timer time) = afterOpening (st .store) (opening registry timer time)
-step st (Arrives association s report) = afterSegment (segment (st .table) (st .store) report association s)
-step st (Ticks time report) = afterSweep (st .store) (clock (st .table) report time)
-step st (Releases association report) = afterSweep (st .store) (release (st .table) report association)
-step st (Sends q o d whole area) = afterSending st (sending (st .table) q o d whole area)
+step st (Opens x) = afterOpening (st .store) (opening (x .registry) (x .timer) (x .time))
+step st (Arrives x) = afterSegment (segment (st .table) (st .store) (x .report) (x .association) (x .parameter))
+step st (Ticks x) = afterSweep (st .store) (clock (st .table) (x .report) (x .time))
+step st (Releases x) = afterSweep (st .store) (release (st .table) (x .report) (x .association))
+step st (Sends x) = afterSending st (sending (st .table) (x .request) (x .origin) (x .destination) (x .whole) (x .area))

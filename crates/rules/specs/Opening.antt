@@ -14,12 +14,16 @@ use Rattle.rules.specs.declared.Opened.{Opened}
 abbrev pub noEntry : Entry
 noEntry = record { context = record { 0 = 0 }; kind = 0 }
 
+-- the registry's entries: those listed, and unused ones behind them
+abbrev pub registryWith : List Entry → List Entry
+registryWith entries = entries ++ replicate (entriesMost - length entries) noEntry
+
 -- a table with no open place
 abbrev pub emptyTable : List Entry → ℕ → ℕ → Table
 emptyTable entries timer clock =
     record {
       places = replicate placeCount freePlace;
-      registry = entries ++ replicate (entriesMost - length entries) noEntry;
+      registry = registryWith entries;
       timer = timer;
       clock = clock;
     }

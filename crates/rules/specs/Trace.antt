@@ -11,7 +11,7 @@ use Rattle.rules.specs.Layout.{octet}
 use Rattle.rules.specs.Records.{delivered, lost, recordsFrom}
 use Rattle.rules.specs.Sweep.{reportLeast}
 use Rattle.rules.specs.Opening.{unopened}
-use Rattle.rules.specs.Calls.{State, Call, Opens, Arrives, Ticks, Releases, Answer, Outcome, step}
+use Rattle.rules.specs.Calls.{State, Call, toOpen, toArrive, toTick, toRelease, Answer, Outcome, step}
 use Rattle.rules.specs.declared.Record.{Record}
 
 -- each is one kind octet and a body whose length the kind fixes
@@ -73,10 +73,10 @@ beginning =
 
 -- every open uses the whole registry as read
 abbrev pub callOf : Replay → Event → Call
-callOf r (Opening timer time) = Opens (r .registry) timer time
-callOf r (Segment association s) = Arrives association s (r .report)
-callOf r (Clock time) = Ticks time (r .report)
-callOf r (Release association) = Releases association (r .report)
+callOf r (Opening timer time) = toOpen (r .registry) timer time
+callOf r (Segment association s) = toArrive association s (r .report)
+callOf r (Clock time) = toTick time (r .report)
+callOf r (Release association) = toRelease association (r .report)
 
 -- the names, in ASCII: open, segment, clock, release, stop
 abbrev pub nameOf : Event → List ℕ
@@ -108,7 +108,7 @@ lineOctets name refusal records gained missed =
 
 unfoldable pub replayLine : Event → Answer → List ℕ
 replayLine e a =
-    let records : List Record = recordsFrom (a .records) (a .lent) in
+    let records : List Record = recordsFrom (a .records) (a .lent .report) in
     lineOctets (nameOf e) (a .refusal) (a .records) (octetsOf delivered records) (octetsOf lost records)
 
 abbrev pub isOpening : Event → Bool
@@ -119,7 +119,7 @@ isOpening (Release association) = false
 
 -- an opening lends no report area
 abbrev pub reportAfter : Replay → Event → Answer → List ℕ
-reportAfter r e a = if isOpening e then r .report else a .lent
+reportAfter r e a = if isOpening e then r .report else a .lent .report
 
 abbrev pub happened : Replay → Event → Outcome → Replay
 happened r e o = record { registry = r .registry; begun = r .begun || isOpening e; state = o .state; report = reportAfter r e (o .answer) }

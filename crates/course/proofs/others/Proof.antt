@@ -4,15 +4,14 @@ use mathlib.Core.Path.{_≡_, refl, _∙_}
 use lib.ListN.{length}
 use native.Mathlib.Omega.{arith}
 use borrow.Author.Needs.{needs}
-use Rattle.demands.specs.Demand2.{Sending}
-use Rattle.course.specs.Laps.{asked, laps, lapOf}
+use Rattle.course.specs.Laps.{Asked, asked, laps, lapOf}
 use Rattle.course.proofs.Laps.{laps-next, laps-end}
 use Rattle.course.proofs.others.Statement.{statement}
 use Rattle.course.proofs.others.Tie as tie
 
 abbrev Inv-loop : tie.InvT-loop
 Inv-loop c count origin destination whole area₀ store₀ report₀ end l₀ k₀ area store report l k =
-    let x : Sending = asked (c .table) (c .request) (c .association) origin destination whole in
+    let x : Asked = asked (c .table) (c .request) (c .association) origin destination whole in
     (laps (count - 1) 1 x (lapOf l₀ store₀ report₀ area₀) ≡ laps (end - k) k x (lapOf l store report area))
     × ((l .number ≡ 0) × ((k ≤ end) × ((length area ≡ length area₀) × ((length store ≡ length store₀) × (length report ≡ length report₀)))))
 

@@ -1,0 +1,52 @@
+-- WHAT FOLLOWS. Of any machine that meets demand 3: what is delivered came in order, and an unsegmented parameter's record covers it alone. Of any machine: since the last
+-- opening nothing that was accepted is forgotten by the history, or covered twice.
+use Prim.Native.Nat.{ℕ, _+_, _<_}
+use mathlib.Core.Path.{_≡_}
+use mathlib.Core.Bool.{true, false}
+use mathlib.Core.List.{List, [], _∷_, _++_}
+use lib.ListN.{length}
+use Rattle.rules.specs.General.{if_then_else_}
+use Rattle.rules.specs.Records.{delivered}
+use Rattle.rules.specs.Places.{sameKey}
+use Rattle.rules.specs.declared.Key.{Key}
+use Rattle.demands.specs.Machine.{Machine, All}
+use Rattle.demands.specs.Seen.{Seen}
+use Rattle.demands.specs.History.{Segment, Taken, Cover, Told, after, covers, Meets}
+
+-- segments that begin with a new one and count down by one to 0
+abbrev pub Down : ℕ → List Segment → Type 0
+Down r [] = r ≡ 0
+Down r (x ∷ l) = (x .new ≡ false) × (x .remaining + 1 ≡ r) × Down (x .remaining) l
+
+abbrev pub CountsDown : List Segment → Type 0
+CountsDown [] = ⊥
+CountsDown (x ∷ l) = (x .new ≡ true) × Down (x .remaining) l
+
+pub record InOrder (c : Cover) : Type 0 where
+  pub delivered : c .made .kind ≡ delivered → CountsDown (c .segments)
+  pub alone : c .made .key .reference .0 ≡ 255 → length (c .segments) ≡ 1
+
+abbrev pub Orderly : Machine → Type 0
+Orderly m = Meets (λ (h : Told) (x : Seen). All InOrder (covers h x)) m
+
+-- of a key, in order: what was accepted, and what its records covered
+abbrev pub takenOf : Key → List Taken → List Segment
+takenOf k [] = []
+takenOf k (x ∷ l) = if sameKey (x .key) k then x .segment ∷ takenOf k l else takenOf k l
+
+abbrev pub coveredOf : Key → List Cover → List Segment
+coveredOf k [] = []
+coveredOf k (c ∷ l) = if sameKey (c .made .key) k then c .segments ++ coveredOf k l else coveredOf k l
+
+-- segments of calls with higher and higher numbers
+abbrev pub Rising : ℕ → List Taken → Type 0
+Rising n [] = Unit {0}
+Rising n (x ∷ l) = (n < x .segment .number) × Rising (x .segment .number) l
+
+-- what was accepted of a key is what its records cover, each after the one before, and what none covers; and all of it is in order of arrival
+pub record Complete (h : Told) : Type 0 where
+  pub whole : (k : Key) → takenOf k (h .taken) ≡ coveredOf k (h .covered) ++ h .uncovered k
+  pub rising : Rising 0 (h .taken)
+
+abbrev pub Unforgetting : Machine → Type 0
+Unforgetting m = Meets (λ (h : Told) (x : Seen). Complete (after h x)) m
