@@ -312,8 +312,8 @@ egrynnol_part egrynnol_delivery(egrynnol_decision decision,
 /*
  * egrynnol_sending - writes one segment of data.
  *
- * Only the registry of the table is used; the table is not changed. Call with
- * request.number 0 first: the answer has the count of segments. Then call with
+ * The table is judged whole (1 where it is not sound), and of a sound one only
+ * the registry is used; it is not changed. Call with request.number 0 first: the answer has the count of segments. Then call with
  * 1 to count - 1, all else the same. If it all fits into room1 octets there is
  * one segment, and the reference is not written.
  *

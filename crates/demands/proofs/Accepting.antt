@@ -8,10 +8,10 @@ use borrow.Author.Tests.{ltb-false, leb-false, not-true}
 use lib.Dec.{leb, ltb}
 use lib.ListN.{length, take, drop, length-take}
 use Rattle.rules.specs.General.{if_then_else_}
-use Rattle.rules.specs.Numbers.{parameterMost, addressMost, age}
+use Rattle.rules.specs.Numbers.{parameterMost, addressMost, elapsed}
 use Rattle.rules.specs.Refusals.{Check, _when_, accepted}
 use Rattle.rules.specs.Registry.{kindOf}
-use Rattle.rules.specs.Layout.{octet, contextOf, has1a, has3a, isAlone, isNew, remainingOf, at2, at3, originAt, fieldsOf, lastChecks, contextChecks, sequenceChecks, addressesChecks, readingChecks}
+use Rattle.rules.specs.Layout.{octet, contextOf, has1a, has3a, isUnsegmented, isNew, remainingOf, at2, at3, originAt, fieldsOf, lastChecks, contextChecks, sequenceChecks, addressesChecks, readingChecks}
 use Rattle.rules.specs.Soundness.{sound}
 use Rattle.rules.specs.Receiving.{keyOf}
 use Rattle.rules.specs.Sweep.{reportLeast, clockChecks, releaseChecks}
@@ -23,7 +23,7 @@ use Rattle.demands.proofs.Arriving.{filled-length}
 use Rattle.demands.proofs.Settling.{KeyFits}
 
 abbrev seven : List ℕ → ℕ → Check
-seven s at = 7 when Bool·beq (has3a (octet s at)) (isAlone (isNew (octet s at)) (remainingOf (octet s at)))
+seven s at = 7 when Bool·beq (has3a (octet s at)) (isUnsegmented (isNew (octet s at)) (remainingOf (octet s at)))
 
 module _ (registry : List Entry) (s : List ℕ) where
   abbrev kind : ℕ
@@ -37,7 +37,7 @@ module _ (registry : List Entry) (s : List ℕ) where
 
   module _ (e : accepted (readingChecks registry s) ≡ true) where
     -- an unsegmented parameter has the reference 255
-    pub alone-reference : isAlone (fieldsOf registry s .heading .new) (fieldsOf registry s .heading .remaining .0) ≡ true → fieldsOf registry s .heading .reference .0 ≡ 255
+    pub alone-reference : isUnsegmented (fieldsOf registry s .heading .new) (fieldsOf registry s .heading .remaining .0) ≡ true → fieldsOf registry s .heading .reference .0 ≡ 255
     unfolding readingChecks fieldsOf
     alone-reference a = go (has3a (octet s (at3 s))) (and-eq-true-iff _ _ .0 seventh .0)
       where
@@ -49,7 +49,7 @@ module _ (registry : List Entry) (s : List ℕ) where
         seventh : accepted (seven s (at3 s) ∷ []) ≡ true
         seventh = accepted-both ((5 when leb (length s) (at3 s) ∷ []) ++ (if has3a (octet s (at3 s)) then lastChecks s (at3 s + 1) else [])) (seven s (at3 s) ∷ []) heads .1
 
-        go : (b : Bool) → not (Bool·beq b (isAlone (isNew (octet s (at3 s))) (remainingOf (octet s (at3 s))))) ≡ true → (if b then octet s (at3 s + 1) % 128 else 255) ≡ 255
+        go : (b : Bool) → not (Bool·beq b (isUnsegmented (isNew (octet s (at3 s))) (remainingOf (octet s (at3 s))))) ≡ true → (if b then octet s (at3 s + 1) % 128 else 255) ≡ 255
         go true q = let z : false ≡ true = simp a at q in absurd (let y : _≡_ {A = ℕ} 0 1 = cc in omega arith)
         go false q = refl
 
@@ -69,21 +69,21 @@ module _ (registry : List Entry) (s : List ℕ) where
         range true = omega arith
         range false = omega arith
 
--- where a start has room, 10 does not apply
-pub room-left : (a b : Bool) → (a ≡ true → b ≡ true) → (a && not b) ≡ false
-room-left true b h = rw (h refl)
-room-left false b h = refl
+-- where a start has vacant, 10 does not apply
+pub vacant-left : (a b : Bool) → (a ≡ true → b ≡ true) → (a && not b) ≡ false
+vacant-left true b h = rw (h refl)
+vacant-left false b h = refl
 
 not-not : (b : Bool) → not (not b) ≡ true → b ≡ true
 not-not true e = refl
 not-not false e = e
 
 pub clock-good : (t : Table) (report : List ℕ) (time : ℕ) → accepted (clockChecks t report time) ≡ true
-    → (sound t ≡ true) × (reportLeast ≤ length report) × (age time (t .clock) < 2 ^ 31)
+    → (sound t ≡ true) × (reportLeast ≤ length report) × (elapsed time (t .clock) < 2 ^ 31)
 unfolding clockChecks
 clock-good t report time e =
     let c = simp and-eq-true-iff at e in
-    (not-not (sound t) (c .0), ltb-false (length report) reportLeast (not-true _ (c .1 .0)), leb-false (2 ^ 31) (age time (t .clock)) (not-true _ (c .1 .1 .0)))
+    (not-not (sound t) (c .0), ltb-false (length report) reportLeast (not-true _ (c .1 .0)), leb-false (2 ^ 31) (elapsed time (t .clock)) (not-true _ (c .1 .1 .0)))
 
 pub release-good : (t : Table) (report : List ℕ) → accepted (releaseChecks t report) ≡ true → (sound t ≡ true) × (reportLeast ≤ length report)
 unfolding releaseChecks

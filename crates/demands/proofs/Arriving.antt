@@ -13,7 +13,7 @@ use Rattle.octets.proofs.Splice.{splice-back, splice-below}
 use Rattle.rules.specs.General.{if_then_else_}
 use Rattle.rules.specs.Numbers.{storeLeast, placeStart, addressMost}
 use Rattle.rules.specs.Refusals.{Check, accepted}
-use Rattle.rules.specs.Layout.{isAlone, fieldsOf, readingChecks}
+use Rattle.rules.specs.Layout.{isUnsegmented, fieldsOf, readingChecks}
 use Rattle.rules.specs.Records.{recordLength, zeroFilled, recordOctets, recordsOctets}
 use Rattle.rules.specs.Places.{noPlace, holds, placeOf, lowestFree, isAt, placeAt}
 use Rattle.rules.specs.Soundness.{sound}
@@ -37,11 +37,11 @@ use Rattle.demands.proofs.Spared.{Kept, lentChecks, segment-is}
 
 -- Which line
 
-pub line-alone : (b : Bool) (before saved : ℕ) (g : Heading) (n : ℕ) → isAlone (g .new) (g .remaining .0) ≡ true → lineOf b before saved g n ≡ Unsegmented
+pub line-alone : (b : Bool) (before saved : ℕ) (g : Heading) (n : ℕ) → isUnsegmented (g .new) (g .remaining .0) ≡ true → lineOf b before saved g n ≡ Unsegmented
 unfolding lineOf
 line-alone b before saved g n alone = rw alone
 
-pub line-new : (b : Bool) (before saved : ℕ) (g : Heading) (n : ℕ) → isAlone (g .new) (g .remaining .0) ≡ false → g .remaining .0 ≤ 9 → g .new ≡ true
+pub line-new : (b : Bool) (before saved : ℕ) (g : Heading) (n : ℕ) → isUnsegmented (g .new) (g .remaining .0) ≡ false → g .remaining .0 ≤ 9 → g .new ≡ true
     → lineOf b before saved g n ≡ (if b then Restart else Start)
 unfolding lineOf
 line-new true before saved g n alone nine new = rw (alone, le-ltb 9 (g .remaining .0) nine, new)
@@ -60,7 +60,7 @@ keyFor association g o =
     record { address = zeroFilled o; association = association; context = g .context; reference = g .reference; length = length o }
 
 module _ (t : Table) (store report : List ℕ) (association : ℕ) (s : List ℕ) (g : Heading) (o d info : List ℕ) (read : ReadsBack (t .registry) s g o d info)
-    (good : sound t ≡ true) (long : storeLeast ≤ length store) (room : recordLength ≤ length report) where
+    (good : sound t ≡ true) (long : storeLeast ≤ length store) (ample : recordLength ≤ length report) where
   abbrev pub fields : Fields
   fields =
       record { heading = g; origin = fieldsOf (t .registry) s .origin; length = fieldsOf (t .registry) s .length; information = fieldsOf (t .registry) s .information }
@@ -93,7 +93,7 @@ module _ (t : Table) (store report : List ℕ) (association : ℕ) (s : List ℕ
   unfolding segmentChecks
   accepts e =
       let front : List Check = lentChecks t store report in
-      let one : accepted front ≡ true = rw (good, le-ltb (length store) storeLeast long, le-ltb (length report) recordLength room) in
+      let one : accepted front ≡ true = rw (good, le-ltb (length store) storeLeast long, le-ltb (length report) recordLength ample) in
       let two : accepted (front ++ readingChecks (t .registry) s) ≡ true = accepted-append front (readingChecks (t .registry) s) ∙ rw (one, read .accepted) in
       let same : at (keyOf association s (fieldsOf (t .registry) s)) (fieldsOf (t .registry) s .heading) (drop (fieldsOf (t .registry) s .information) s)
       ≡ at (keyFor association g o) g info = λ i. at (key-is i) (read .heading i) (read .information i) in
@@ -151,7 +151,7 @@ filled-length o h = length-append o (replicate (addressMost - length o) 0) ∙ r
 
 pub one-reported : (r : Record) (report : List ℕ) → length (r .key .address) ≡ addressMost → recordLength ≤ length report
     → take recordLength (splice report 0 (recordsOctets (r ∷ []))) ≡ recordOctets r
-one-reported r report address room =
+one-reported r report address ample =
     let l = record-length r address in
     let same : recordsOctets (r ∷ []) ≡ recordOctets r = append-nil (recordOctets r) in
     rw same (rw l at (splice-back report 0 (recordOctets r) (omega arith)))

@@ -6,7 +6,7 @@ use native.Mathlib.Omega.{arith}
 use borrow.Author.Tests.{le-leb, lt-leb}
 use lib.Dec.{leb}
 use Rattle.rules.specs.Numbers.{dataMost}
-use Rattle.rules.specs.Layout.{isAlone}
+use Rattle.rules.specs.Layout.{isUnsegmented}
 use Rattle.rules.specs.Receiving.{lineOf}
 use Rattle.rules.proofs.Lines as Lines
 use Rattle.rules.specs.declared.Heading.{Heading}
@@ -22,7 +22,7 @@ abbrev pub begins : Heading → Bool
 begins g = g .new && leb (g .remaining .0) 9
 
 pub line-cases : (P : Line → Type 0) (isOpen : Bool) (before saved : ℕ) (g : Heading) (n : ℕ)
-    → (isAlone (g .new) (g .remaining .0) ≡ true → P Unsegmented)
+    → (isUnsegmented (g .new) (g .remaining .0) ≡ true → P Unsegmented)
     → ((cause : ℕ) → cause < 6 → begins g ≡ false → P (Broken cause))
     → (begins g ≡ true → isOpen ≡ true → P Restart)
     → (begins g ≡ true → isOpen ≡ false → P Start)

@@ -9,7 +9,7 @@ use lib.Dec.{eqb}
 use lib.ListN.{length}
 use Rattle.rules.specs.General.{if_then_else_}
 use Rattle.rules.specs.Refusals.{accepted}
-use Rattle.rules.specs.Layout.{isAlone, fieldsOf, readingChecks}
+use Rattle.rules.specs.Layout.{isUnsegmented, fieldsOf, readingChecks}
 use Rattle.rules.specs.Records.{delivered, lost}
 use Rattle.rules.specs.Places.{sameKey}
 use Rattle.rules.specs.Receiving.{informationOf}
@@ -285,7 +285,7 @@ module _ (registry : List Entry) (s : List ℕ) (e : accepted (readingChecks reg
   abbrev g : Heading
   g = fieldsOf registry s .heading
 
-  part-reference : isAlone (g .new) (g .remaining .0) ≡ false → g .reference .0 ≡ 255 → ⊥
+  part-reference : isUnsegmented (g .new) (g .remaining .0) ≡ false → g .reference .0 ≡ 255 → ⊥
   unfolding fieldsOf
   part-reference a r = let short = reference-short registry s e a in omega arith
 
@@ -307,13 +307,13 @@ module _ (h : Told) (tidy : AllTidy (h .uncovered)) (association : ℕ) (s : Lis
   abbrev For : Line → Type 0
   For line = map endingOf rs ≡ endingsOf k line → InPlace u k x (isRestart line) rs
 
-  not-first : x .new ≡ false → isAlone (x .new) (x .remaining) ≡ false
+  not-first : x .new ≡ false → isUnsegmented (x .new) (x .remaining) ≡ false
   not-first e = rw e
 
-  not-last : 1 ≤ x .remaining → isAlone (x .new) (x .remaining) ≡ false
+  not-last : 1 ≤ x .remaining → isUnsegmented (x .new) (x .remaining) ≡ false
   not-last r = rw (ne-eqb (x .remaining) 0 (omega arith)) (and-false (x .new))
 
-  apart : isAlone (x .new) (x .remaining) ≡ false → k .reference .0 ≡ 255 → ⊥
+  apart : isUnsegmented (x .new) (x .remaining) ≡ false → k .reference .0 ≡ 255 → ⊥
   apart = part-reference (h .registry) s read
 
   unsegmented : x .new ≡ true → x .remaining ≡ 0 → For Unsegmented
@@ -321,10 +321,10 @@ module _ (h : Told) (tidy : AllTidy (h .uncovered)) (association : ℕ) (s : Lis
       let none : u k ≡ [] = tidy k .alone (alone-reference (h .registry) s read (rw (n, r))) in
       closed u tidy k x rs delivered (one-record k delivered 0 rs e) (λ d. rw none (n, r)) (λ d. rw none)
 
-  broken : (cause : ℕ) → isAlone (x .new) (x .remaining) ≡ false → For (Broken cause)
+  broken : (cause : ℕ) → isUnsegmented (x .new) (x .remaining) ≡ false → For (Broken cause)
   broken cause a e = closed u tidy k x rs lost (one-record k lost cause rs e) (λ d. absurd (omega arith)) (λ r. absurd (apart a r))
 
-  saves : isAlone (x .new) (x .remaining) ≡ false → Going (u k ++ (x ∷ [])) → map endingOf rs ≡ [] → InPlace u k x false rs
+  saves : isUnsegmented (x .new) (x .remaining) ≡ false → Going (u k ++ (x ∷ [])) → map endingOf rs ≡ [] → InPlace u k x false rs
   saves a new e = saved u tidy k x rs e (record { going = new; alone = λ r. absurd (apart a r) })
 
   each-line : For (lineIn h association s)

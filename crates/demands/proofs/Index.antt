@@ -1,6 +1,9 @@
--- Every theorem of the demands, by name: of the machine of the rules, and of whatever keeps the contracts of the code. The wrong machines are refuted in Rejected.antt.
-use mathlib.Core.Path.{refl}
-use Rattle.demands.specs.Machine.{Machine, ours}
+-- Every theorem of the demands, by name, of the machine of the rules. The wrong machines are refuted in Rejected.antt, and the crate demanded has them of the code.
+use mathlib.Core.Path.{_≡_, refl}
+use mathlib.Core.Bool.{false}
+use Rattle.rules.specs.Calls.{State, Call, Opens, Opening}
+use Rattle.demands.specs.Machine.{Machine, ours, isOpening, InRange}
+use Rattle.demands.specs.Seen.{seenBy}
 use Rattle.demands.specs.Demand1.{Demand1}
 use Rattle.demands.specs.Demand2.{Demand2}
 use Rattle.demands.specs.Demand3.{Demand3}
@@ -9,7 +12,7 @@ use Rattle.demands.specs.Release.{Release}
 use Rattle.demands.specs.Soundness.{Sound}
 use Rattle.demands.specs.Exactly.{Exactly}
 use Rattle.demands.specs.Follows.{Orderly, Unforgetting}
-use Rattle.demands.specs.Bridge.{Keeps}
+use Rattle.demands.specs.Demanded.{Demanded, Begun}
 use Rattle.demands.proofs.Refused as Refused
 use Rattle.demands.proofs.Sound as Sound
 use Rattle.demands.proofs.Return as Return
@@ -17,7 +20,7 @@ use Rattle.demands.proofs.Kept as Kept
 use Rattle.demands.proofs.Timing as Timing
 use Rattle.demands.proofs.Releasing as Releasing
 use Rattle.demands.proofs.Follows as Follows
-use Rattle.demands.proofs.Bridge.{carried-over}
+use Rattle.demands.proofs.Demanded as One
 
 -- demand 1: every call is answered, refusals by number and in order, and a refused call changes nothing
 pub demand-1 : Demand1 ours
@@ -54,29 +57,9 @@ orderly = Follows.orderly
 pub unforgetting : (m : Machine) → Unforgetting m
 unforgetting = Follows.unforgetting
 
--- all of it, of any machine that keeps the contracts of the public calls
-pub record All (m : Machine) : Type 0 where
-  pub one : Demand1 m
-  pub two : Demand2 m
-  pub three : Demand3 m
-  pub timed : Timer m
-  pub released : Release m
-  pub sound : Sound m
-  pub exact : Exactly m
-  pub orderly : Orderly m
-  pub unforgetting : Unforgetting m
+-- all of it of one call, along any history that matches: what the contracts of the crate demanded say of the code
+pub of-call : (st : State) (c : Call) → InRange c → isOpening c ≡ false → Demanded (seenBy ours st c)
+of-call = One.demanded
 
-pub of-code : (m : Machine) → Keeps m → All m
-of-code =
-    carried-over All
-    (record {
-      one = demand-1;
-      two = demand-2;
-      three = demand-3;
-      timed = timer;
-      released = releasing;
-      sound = soundness;
-      exact = exactly;
-      orderly = orderly ours demand-3;
-      unforgetting = unforgetting ours;
-    })
+pub of-opening : (st : State) (x : Opening) → InRange (Opens x) → Begun (seenBy ours st (Opens x))
+of-opening = One.begun

@@ -9,16 +9,16 @@ use lib.Dec.{eqb, leb}
 use lib.ListN.{length, getD}
 use Rattle.octets.specs.Splice.{splice}
 use Rattle.rules.specs.General.{if_then_else_}
-use Rattle.rules.specs.Numbers.{age}
+use Rattle.rules.specs.Numbers.{elapsed}
 use Rattle.rules.specs.Refusals.{accepted, first}
 use Rattle.rules.specs.Registry.{entriesOf}
-use Rattle.rules.specs.Layout.{isAlone, fieldsOf, readingChecks}
+use Rattle.rules.specs.Layout.{isUnsegmented, fieldsOf, readingChecks}
 use Rattle.rules.specs.Records.{recordsOctets, recordsFrom}
 use Rattle.rules.specs.Places.{sameKey, isOpen, noPlace, holds, placeOf, placeAt, lowestFree}
 use Rattle.rules.specs.Soundness.{placeSound, openSound, sound}
 use Rattle.rules.specs.Receiving.{keyOf, informationOf, lineOf, lineAt, Effect, effectOf, receptionOf, segmentChecks, segment}
 use Rattle.rules.specs.Delivery.{delivery}
-use Rattle.rules.specs.Sweep.{reportLeast, sweep, isDue, isOf, clockChecks, clock, releaseChecks, release}
+use Rattle.rules.specs.Sweep.{reportLeast, sweep, isDue, isOf, clockChecks, clock, releaseChecks, release, lossesBy}
 use Rattle.rules.specs.Opening.{emptyTable, unopened, openingChecks, opening}
 use Rattle.rules.specs.Calls.{State, Call, Opens, Arrives, Ticks, Releases, Sends, Opening, Arrival, Tick, Release, Dispatch, lentOf, Answer, answering, Outcome, afterOpening, afterSegment, afterSweep, step}
 use Rattle.rules.specs.declared.Entry.{Entry}
@@ -30,22 +30,21 @@ use Rattle.rules.specs.declared.Record.{Record}
 use Rattle.rules.specs.declared.Found.{Found}
 use Rattle.rules.specs.declared.Line.{Line}
 use Rattle.rules.specs.declared.Opened.{Opened}
-use Rattle.rules.specs.declared.Decision.the-variants.{Refused}
 use Rattle.rules.proofs.Keys.{same-equal}
 use Rattle.rules.proofs.Records.{records-back}
 use Rattle.rules.proofs.Held.{every-at, open-is, places-sound}
 use Rattle.rules.proofs.Reading.{parameter-short}
 use Rattle.rules.proofs.Arrived.{arrived as arrived-good}
 use Rattle.demands.specs.Machine.{ours, checksOf, isOpening, parameterOf, All, InRange, Typed}
-use Rattle.demands.specs.Seen.{Seen, seenOf, seenBy}
+use Rattle.demands.specs.Seen.{Seen, seenOf, handing, seenBy}
 use Rattle.demands.specs.Demand1.{refusedState}
 use Rattle.demands.specs.History.{Segment, Told, Deed, Takes, Passes, Ends, joined, isNone, remainingOf, coversOf, coverOf, recordsIn, recordsOf, recordsBy, settled, deedsOf, counted, beginning, did, after, covers, EachIn}
 use Rattle.demands.specs.Demand3.{Ruled, IsLost, Fair, owed, heldFrom, held, owing, Agrees, Accounted, Demand3}
 use Rattle.demands.proofs.Holding.{none-held, owing-none}
 use Rattle.demands.proofs.Settling.{Arrived, segmentWith, line-told, segment-done}
-use Rattle.demands.proofs.Sweeping.{losses, Swept, sweep-places, losses-lost}
-use Rattle.demands.proofs.Accepting.{alone-reference, key-fits, room-left, clock-good, release-good}
-use Rattle.demands.proofs.Refused.{refusedOutcome, step-refused, refused-number}
+use Rattle.demands.proofs.Sweeping.{Swept, sweep-places, losses-lost}
+use Rattle.demands.proofs.Accepting.{alone-reference, key-fits, vacant-left, clock-good, release-good}
+use Rattle.demands.proofs.Refused.{refusedOutcome, step-refused, refused-number, refused-hands}
 use Rattle.demands.proofs.Spared.{clash}
 use Rattle.demands.proofs.Sparing.{sweep-back}
 use Rattle.demands.proofs.Typed.{typed-kept, typed-opened}
@@ -71,7 +70,7 @@ not-held t k s r j l = go (holds k (getD (t .places) j noPlace)) refl
 
 -- a call with its outcome, as it is seen
 abbrev seenWith : State → Call → Outcome → Seen
-seenWith st c o = seenOf st c o (delivery (o .answer .decision) (parameterOf c) (o .state .store))
+seenWith st c o = seenOf st c o (handing ours (o .answer .decided) (parameterOf c) (o .state .store))
 
 -- a refused call does nothing
 no-deeds : (c : Call) → isOpening c ≡ false → (a : Answer) → (a .refusal ≡ 0 → ⊥) → deedsOf c a ≡ []
@@ -99,14 +98,14 @@ module _ (st : State) (h : Told) (inv : Inv st h) where
   u = h .uncovered
 
   -- a call that does nothing
-  idle-done : (c : Call) (o : Outcome) → deedsOf c (o .answer) ≡ [] → o .answer .decision ≡ Refused → o .answer .records ≡ 0 → o .state ≡ st → Accounted h (seenWith st c o)
-  unfolding after covers EachIn delivery
+  idle-done : (c : Call) (o : Outcome) → deedsOf c (o .answer) ≡ [] → handing ours (o .answer .decided) (parameterOf c) (o .state .store) ≡ [] → o .answer .records ≡ 0 → o .state ≡ st → Accounted h (seenWith st c o)
+  unfolding after covers EachIn
   idle-done c o e d r s =
       record {
         recorded = rw (e, r);
         ruled = rw e tt;
         fair = rw e tt;
-        handed = rw (e, d);
+        handed = rw e d;
         agrees = rw (e, s)
             (record { exact = inv .agrees .exact; registry = inv .agrees .registry; timer = inv .agrees .timer; clock = inv .agrees .clock });
         unmoved = λ y z. s;
@@ -123,7 +122,7 @@ module _ (st : State) (h : Told) (inv : Inv st h) where
   refused-done : (c : Call) → isOpening c ≡ false → accepted (checksOf st c) ≡ false → Accounted h (seenBy ours st c)
   refused-done c o e =
       subst (λ (out : Outcome). Accounted h (seenWith st c out)) (sym (step-refused st c e))
-      (idle-done c (refusedOutcome st c (first (checksOf st c))) (no-deeds c o _ (refused-number st c e)) refl refl (stays c o))
+      (idle-done c (refusedOutcome st c (first (checksOf st c))) (no-deeds c o _ (refused-number st c e)) (refused-hands c (parameterOf c) (refusedState st c .store)) refl (stays c o))
 
   -- a segment
   module _ (x : Arrival) where
@@ -170,11 +169,11 @@ module _ (st : State) (h : Told) (inv : Inv st h) where
             let f : Fields = fieldsOf (t .registry) s in
             let k : Key = keyBy (t .registry) in
             let exact = inv .agrees .exact in
-            let alone : (isAlone (f .heading .new) (f .heading .remaining .0) ≡ true → u k ≡ []) =
+            let alone : (isUnsegmented (f .heading .new) (f .heading .remaining .0) ≡ true → u k ≡ []) =
             (λ a. owing-none (u k) (sym (exact k) ∙ none-held store k 0 (t .places) (not-held t k (c .table) (alone-reference (t .registry) s (c .reading) a)))) in
             let short = parameter-short (t .registry) s (c .reading) in
             let fit = key-fits (t .registry) s (c .reading) (x .association) small in
-            let d = segment-done t store s f k u exact (h .number + 1) (h .ticks) (c .table) (inv .typed .count) (c .stores) short fit alone (room-left _ _ (c .room)) in
+            let d = segment-done t store s f k u exact (h .number + 1) (h .ticks) (c .table) (inv .typed .count) (c .stores) short fit alone (vacant-left _ _ (c .vacant)) in
             let told = line-told t store s f k u exact (h .number + 1) (h .ticks) (c .table) (inv .typed .count) (c .stores) short fit in
             let place : Found = placeOf k (t .places) in
             let effect : Effect = effectOf (lineAt t k (f .heading) (length (informationOf s f))) t store k f (informationOf s f) place (placeAt (t .places) place) (lowestFree (t .places)) in
@@ -188,7 +187,7 @@ module _ (st : State) (h : Told) (inv : Inv st h) where
     outcome = afterSweep store (sweep test cause time t report)
 
     abbrev made : List Record
-    made = losses test cause (t .places)
+    made = lossesBy test cause (t .places)
 
     pub made-back : recordsIn (outcome .answer) ≡ made
     made-back = sweep-back test opens cause t good (inv .typed) time report long
@@ -216,7 +215,7 @@ module _ (st : State) (h : Told) (inv : Inv st h) where
         }
 
   pub due-open : (time timer : ℕ) (p : Place) → isDue time timer p ≡ true → isOpen p ≡ true
-  due-open time timer p e = and-eq-true-iff (isOpen p) (leb timer (age time (p .start))) .0 e .0
+  due-open time timer p e = and-eq-true-iff (isOpen p) (leb timer (elapsed time (p .start))) .0 e .0
 
   pub of-open : (association : ℕ) (p : Place) → isOf association p ≡ true → isOpen p ≡ true
   of-open association p e = and-eq-true-iff (isOpen p) (eqb (p .key .association) association) .0 e .0

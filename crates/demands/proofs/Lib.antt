@@ -1,5 +1,4 @@
 pub mod Index
-pub mod Bridge
 pub mod Running
 pub mod Typed
 pub mod Refused
@@ -18,4 +17,5 @@ pub mod Kept
 pub mod Timing
 pub mod Releasing
 pub mod Follows
+pub mod Demanded
 pub mod Rejected

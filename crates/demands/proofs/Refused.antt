@@ -13,12 +13,11 @@ use Rattle.rules.specs.Delivery.{delivery}
 use Rattle.rules.specs.Sweep.{sweep, clockChecks, clock, releaseChecks, release}
 use Rattle.rules.specs.Opening.{opening}
 use Rattle.rules.specs.Sending.{sendingChecks, sending}
-use Rattle.rules.specs.Calls.{State, Call, Opens, Arrives, Ticks, Releases, Sends, lentOf, answering, Outcome, step}
+use Rattle.rules.specs.Calls.{State, Call, Opens, Arrives, Ticks, Releases, Sends, refusedAs, refusing, Outcome, step}
 use Rattle.rules.specs.declared.Entry.{Entry}
-use Rattle.rules.specs.declared.Decision.the-variants.{Refused}
 use Rattle.rules.proofs.Refusals.{Least, least-append, least-if, least-less, first-least, accepted-first}
-use Rattle.demands.specs.Machine.{ours, checksOf}
-use Rattle.demands.specs.Seen.{seenBy}
+use Rattle.demands.specs.Machine.{ours, checksOf, parameterOf}
+use Rattle.demands.specs.Seen.{handing, seenBy}
 use Rattle.demands.specs.Demand1.{refusedState, Untouched, Demand1}
 
 -- what a call is refused by
@@ -79,7 +78,7 @@ checks-least st c = go c (least-less 2 1 (others (checksOf st c)) (omega arith) 
 
 -- a call as it is when refused by a number
 abbrev pub refusedOutcome : State → Call → ℕ → Outcome
-refusedOutcome st c n = record { answer = answering n 0 Refused (lentOf c); state = refusedState st c }
+refusedOutcome st c n = record { answer = refusing n c; state = refusedState st c }
 
 pub step-refused : (st : State) (c : Call) → accepted (checksOf st c) ≡ false → step st c ≡ refusedOutcome st c (first (checksOf st c))
 unfolding step opening segment clock release sending
@@ -116,9 +115,17 @@ zero-accepted st c e = go (accepted (checksOf st c)) refl
     go true h = refl
     go false h = absurd (refused-number st c h (sym (number st c) ∙ e))
 
-untouched : (st : State) (c : Call) → accepted (checksOf st c) ≡ false → Untouched (seenBy ours st c)
+-- and nothing is handed over
+pub refused-hands : (c : Call) (s store : List ℕ) → handing ours (refusedAs c) s store ≡ []
 unfolding delivery
-untouched st c h = let e = step-refused st c h in record { state = rw e; answer = rw e; handed = rw e }
+refused-hands (Opens x) s store = refl
+refused-hands (Arrives x) s store = refl
+refused-hands (Ticks x) s store = refl
+refused-hands (Releases x) s store = refl
+refused-hands (Sends x) s store = refl
+
+untouched : (st : State) (c : Call) → accepted (checksOf st c) ≡ false → Untouched (seenBy ours st c)
+untouched st c h = let e = step-refused st c h in record { state = rw e; answer = rw e; handed = rw e (refused-hands c (parameterOf c) (refusedState st c .store)) }
 
 pub demand-1 : Demand1 ours
 demand-1 =

@@ -8,7 +8,7 @@ use mathlib.Core.List.{List, [], _∷_}
 use lib.ListN.{length, getD, replicate, length-replicate}
 use Rattle.octets.specs.Splice.{splice}
 use Rattle.rules.specs.General.{if_then_else_, every}
-use Rattle.rules.specs.Numbers.{age, storeLeast, placeCount, addressMost}
+use Rattle.rules.specs.Numbers.{elapsed, storeLeast, placeCount, addressMost}
 use Rattle.rules.specs.Refusals.{accepted}
 use Rattle.rules.specs.Layout.{fieldsOf, readingChecks, parameterOctets}
 use Rattle.rules.specs.Records.{recordOctets, recordFrom, recordLength}
@@ -20,7 +20,7 @@ use Rattle.rules.specs.Delivery.{delivery}
 use Rattle.rules.specs.Opening.{noEntry, opening}
 use Rattle.rules.specs.Sending.{segmentOctets, sendingChecks, sending}
 use Rattle.rules.specs.Examples.{fresh}
-use Rattle.rules.specs.Calls.{State, Opening, Call, Opens, Arrives, Ticks, Releases, Sends, toArrive, toTick, toRelease, Answer, Outcome, step}
+use Rattle.rules.specs.Calls.{State, Opening, Call, Opens, Arrives, Ticks, Releases, Sends, toArrive, toTick, toRelease, As, Answer, Outcome, step}
 use Rattle.rules.specs.declared.Entry.{Entry}
 use Rattle.rules.specs.declared.Key.{Key}
 use Rattle.rules.specs.declared.Part.the-variants.{OfStore}
@@ -29,7 +29,7 @@ use Rattle.demands.specs.Machine.{Machine, checksOf, All, InRange, Typed
 use Rattle.demands.specs.Seen.{Seen, seenBy, runOf}
 use Rattle.demands.specs.History.{Told, deedsOf, after, covers, EachIn, silence, Along, Meets}
 use Rattle.demands.specs.Demand1.{Demand1}
-use Rattle.demands.specs.Demand2.{Demand2, Sending, Sender, sendingOf, Sendable, countIn, Ready, RoundTrip, stop, mine}
+use Rattle.demands.specs.Demand2.{Demand2, Shipment, Sender, sendingOf, Sendable, countIn, Ready, RoundTrip, stop, mine}
 use Rattle.demands.specs.Demand3.{Demand3, Ending, View, held}
 use Rattle.demands.specs.Timer.{Timer}
 use Rattle.demands.specs.Release.{Release}
@@ -179,7 +179,7 @@ unfolding opening segmentChecks segment clockChecks clock releaseChecks release 
 ruling = tt
 
 computing : Unit {0}
-unfolding ruling sound openSound freeSound readingChecks fieldsOf sameKey lineOf effectOf age splice recordOctets recordFrom deedsOf after covers EachIn held
+unfolding ruling sound openSound freeSound readingChecks fieldsOf sameKey lineOf effectOf elapsed splice recordOctets recordFrom deedsOf after covers EachIn held
 computing = tt
 
 -- an octet of a list and of the area that was sent to, and a number of a list's first element
@@ -201,7 +201,7 @@ all-replicate P x h zero = tt
 all-replicate P x h (suc n) = (h, all-replicate P x h n)
 
 -- WHAT IS SENT, by the context and its kind, both rooms, the destination and the data
-abbrev cut : ℕ → ℕ → ℕ → List ℕ → List ℕ → Sending
+abbrev cut : ℕ → ℕ → ℕ → List ℕ → List ℕ → Shipment
 cut context kind room destination whole =
     record {
       request = record { context = record { 0 = context }; instruction = 1; reference = record { 0 = 5 }; room1 = room; room = room; number = 0 };
@@ -213,14 +213,14 @@ cut context kind room destination whole =
     }
 
 -- rooms of 5 octets hold two octets of data in one segment, or one in each of several
-abbrev two : Sending
+abbrev two : Shipment
 two = cut 3 1 5 [] (1 ∷ 2 ∷ [])
 
-abbrev three : Sending
+abbrev three : Shipment
 three = cut 3 1 5 [] (1 ∷ 2 ∷ 3 ∷ [])
 
 -- one octet to the destination 07
-abbrev addressed : Sending
+abbrev addressed : Shipment
 addressed = cut 4 2 7 (7 ∷ []) (1 ∷ [])
 
 -- from a table opened at a time, with an area of so many octets
@@ -534,6 +534,6 @@ m3-typed = (omega arith, (omega arith, (omega arith, (omega arith, (omega arith,
 pub rejects-takesHighest : Exactly takesHighest → ⊥
 unfolding computing
 rejects-takesHighest d =
-    let e : Saved 15 ≡ Saved 0 = ap (λ (a : Answer). a .decision) (d .every before (toArrive 9 m3 one) before-typed m3-typed .answer) in
+    let e : As (Saved 15) ≡ As (Saved 0) = ap (λ (a : Answer). a .decided) (d .every before (toArrive 9 m3 one) before-typed m3-typed .answer) in
     let z : _≡_ {A = ℕ} 15 0 = cc in
     omega arith

@@ -9,7 +9,7 @@ use borrow.Author.Tests.{eq-eqb, eqb-true}
 use lib.Dec.{eqb}
 use lib.ListN.{length}
 use Rattle.rules.specs.Places.{sameKey, isOpen}
-use Rattle.rules.specs.Sweep.{isOf, release}
+use Rattle.rules.specs.Sweep.{isOf, release, lossesBy}
 use Rattle.rules.specs.Calls.{State, Call, Opens, Arrives, Ticks, Releases, Sends, Opening, step}
 use Rattle.rules.specs.Calls as calls
 use Rattle.rules.specs.declared.Key.{Key}
@@ -23,7 +23,6 @@ use Rattle.demands.specs.Demand3.{Ruled, View, held, owing}
 use Rattle.demands.specs.Timer.{lostBy}
 use Rattle.demands.specs.Release.{Released, Release}
 use Rattle.demands.proofs.Spared.{clash}
-use Rattle.demands.proofs.Sweeping.{losses}
 use Rattle.demands.proofs.Accepting.{release-good}
 use Rattle.demands.proofs.Refused.{zero-accepted}
 use Rattle.demands.proofs.Kept.{Inv, of-open, made-back, call-done, inv-opened, inv-call}
@@ -42,7 +41,7 @@ module _ (st : State) (h : Told) (inv : Inv st h) where
   t = st .table
 
   module _ (x : calls.Release) (z : eqb (step st (Releases x) .answer .refusal) 0 ≡ true) where
-    releases-records : recordsIn (step st (Releases x) .answer) ≡ losses (isOf (x .association)) 7 (t .places)
+    releases-records : recordsIn (step st (Releases x) .answer) ≡ lossesBy (isOf (x .association)) 7 (t .places)
     unfolding step release
     releases-records =
         let e = zero-accepted st (Releases x) (eqb-true _ 0 z) in
@@ -65,7 +64,7 @@ module _ (st : State) (h : Told) (inv : Inv st h) where
   abbrev So : List Deed → Type 0
   So ds = EachDeed Ruled (counted h) ds → EachDeed Released (counted h) ds
 
-  released-call : (c : Call) → isOpening c ≡ false → EachIn Ruled h (seenBy ours st c) → EachIn Released h (seenBy ours st c)
+  pub released-call : (c : Call) → isOpening c ≡ false → EachIn Ruled h (seenBy ours st c) → EachIn Released h (seenBy ours st c)
   unfolding EachIn deedsOf
   released-call (Opens x) o = absurd (clash refl o)
   released-call (Arrives x) o =
@@ -74,7 +73,7 @@ module _ (st : State) (h : Told) (inv : Inv st h) where
   released-call (Releases x) o = either So (eqb (step st (Releases x) .answer .refusal) 0) _ (λ e d. (released x e, tt)) (λ d. tt)
   released-call (Sends x) o = λ d. tt
 
-opened-released : (st : State) (h : Told) (x : Opening) → EachIn Released h (seenBy ours st (Opens x))
+pub opened-released : (st : State) (h : Told) (x : Opening) → EachIn Released h (seenBy ours st (Opens x))
 unfolding EachIn deedsOf
 opened-released st h x = (tt, tt)
 

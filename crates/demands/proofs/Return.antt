@@ -14,13 +14,13 @@ use Rattle.octets.proofs.Splice.{splice-length}
 use Rattle.rules.specs.General.{if_then_else_}
 use Rattle.rules.specs.Numbers.{placeStart, addressMost}
 use Rattle.rules.specs.Registry.{kindOf}
-use Rattle.rules.specs.Layout.{isAlone, fieldsOf}
+use Rattle.rules.specs.Layout.{isUnsegmented, fieldsOf}
 use Rattle.rules.specs.Records.{recordLength, recordOctets, recordsOctets, delivered}
 use Rattle.rules.specs.Places.{noPlace, freePlace, holds, isFree, placeOf, lowestFree, isAt, placeAt}
 use Rattle.rules.specs.Receiving.{lineOf, isStart, effectOf, saveAt, begun, longer, recordWith, receptionOf, Reception, Effect, segment}
 use Rattle.rules.specs.Delivery.{delivery, partOf}
-use Rattle.rules.specs.Sending.{firstCarries, laterCarries, stretchOf, headingFor, carried, sending}
-use Rattle.rules.specs.Calls.{State, Call, Opens, Arrives, Ticks, Releases, Sends, step}
+use Rattle.rules.specs.Sending.{firstCarries, laterCarries, pieceOf, headingFor, carried, sending}
+use Rattle.rules.specs.Calls.{State, Call, Opens, Arrives, Ticks, Releases, Sends, step, As}
 use Rattle.rules.specs.declared.Entry.{Entry}
 use Rattle.rules.specs.declared.Key.{Key}
 use Rattle.rules.specs.declared.Place.{Place}
@@ -35,12 +35,13 @@ use Rattle.rules.specs.declared.Decision.the-variants.{Delivered}
 use Rattle.rules.proofs.Places.{IsFirst, place-is, free-is}
 use Rattle.rules.proofs.Keys.{same-self}
 use Rattle.octets.proofs.Number.{empty}
-use Rattle.rules.proofs.Cutting.{sendable, stretches, stretches-step, cut-joins, alone-is, within-room}
+use Rattle.rules.proofs.Cutting.{cuttable, pieces, pieces-step, cut-joins, alone-is, within-room}
 use Rattle.rules.proofs.ReadBack.{ReadsBack, read-back}
 use Rattle.demands.specs.Machine.{ours, InRange, isOpening}
 use Rattle.demands.specs.Seen.{seenBy}
-use Rattle.demands.specs.Demand2.{Sending, numbered, header, countIn, segmentedIn, segmentOf, Sender, sendingOf, Sendable, IsSent, keyIn, recordIn}
-use Rattle.demands.specs.Demand2.{Spares, arrivalOf, Meanwhile, stop, mine, other, isSaved, Keeps, Begins, Returns, Ready, HasRoom, RoundTrip, Demand2}
+use Rattle.demands.specs.Demand2.{Shipment, numbered, header, countIn, segmentedIn, segmentOf, Sender, sendingOf, Sendable, IsSent, keyIn, recordIn}
+use Rattle.demands.specs.Demand2.{Spares, arrivalOf, Meanwhile, stop, mine, other, isSaved, Saves, BeginsAs, Returns, Ready, CanTake, RoundTrip, Demand2}
+use Rattle.demands.specs.Demanded.{soFar, placeIn, Underway, CanBeSent, Carries}
 use Rattle.demands.proofs.Spared.{Kept, clash, first-at}
 use Rattle.demands.proofs.Typed.{typed-kept}
 use Rattle.demands.proofs.Sound.{kept as sound-kept}
@@ -70,36 +71,36 @@ not-opening st k (Sends x) spares = refl
 
 -- What one segment that can be sent says of all of them
 
-abbrev firstIn : Sending → ℕ
+abbrev firstIn : Shipment → ℕ
 firstIn x = firstCarries (header x) (x .request)
 
-abbrev laterIn : Sending → ℕ
+abbrev laterIn : Shipment → ℕ
 laterIn x = laterCarries (header x) (x .request)
 
-abbrev headingIn : Sending → ℕ → Heading
+abbrev headingIn : Shipment → ℕ → Heading
 headingIn x k = headingFor (x .kind) (header x) (numbered (x .request) k) (length (x .whole))
 
-abbrev informationIn : Sending → ℕ → List ℕ
+abbrev informationIn : Shipment → ℕ → List ℕ
 informationIn x k = carried (header x) (numbered (x .request) k) (x .whole)
 
-record Facts (x : Sending) (k : ℕ) : Type 0 where
+record Facts (x : Shipment) (k : ℕ) : Type 0 where
   size : length (x .whole) ≤ 2048
   origin : length (x .origin) ≤ 20
   ten : countIn x ≤ 10
-  joins : segmentedIn x ≡ true → stretches (firstIn x) (laterIn x) (x .whole) (countIn x) ≡ x .whole
-  alone : isAlone (headingIn x k .new) (headingIn x k .remaining .0) ≡ not (segmentedIn x)
+  joins : segmentedIn x ≡ true → pieces (firstIn x) (laterIn x) (x .whole) (countIn x) ≡ x .whole
+  alone : isUnsegmented (headingIn x k .new) (headingIn x k .remaining .0) ≡ not (segmentedIn x)
   reads : (r : List Entry) → kindOf r (x .request .context .0) ≡ x .kind
       → ReadsBack r (segmentOf x k) (headingIn x k) (x .origin) (x .destination) (informationIn x k)
 
-module _ (x : Sending) (a : Sender) (k : ℕ) (can : Sendable x a k) where
+module _ (x : Shipment) (a : Sender) (k : ℕ) (can : Sendable x a k) where
   -- the rules speak of the kind that the table gives the context, demand 2 of the sending's own
-  abbrev by : ℕ → Sending
+  abbrev by : ℕ → Shipment
   by kind =
       record { request = x .request; origin = x .origin; destination = x .destination; whole = x .whole; kind = kind; association = x .association }
 
   facts : Facts x k
   facts =
-      let all = sendable _ _ _ _ _ _ (can .good) in
+      let all = cuttable _ _ _ _ _ _ (can .good) in
       subst (λ (kind : ℕ). Facts (by kind) k) (can .kind)
       (record {
         size = all .size;
@@ -117,7 +118,7 @@ module _ (x : Sending) (a : Sender) (k : ℕ) (can : Sendable x a k) where
       subst (λ (kind : ℕ). IsSent (by kind) a k (seenBy ours (a .state) (sendingOf x a k))) (can .kind)
       (record { answer = rw ok; state = refl; handed = refl })
 
-ready-kept : (x : Sending) (st : State) (c : Call) → isOpening c ≡ false → InRange c → Ready x st → Ready x (step st c .state)
+ready-kept : (x : Shipment) (st : State) (c : Call) → isOpening c ≡ false → InRange c → Ready x st → Ready x (step st c .state)
 ready-kept x st c o range r =
     record {
       sound = sound-kept st c o (r .sound);
@@ -127,7 +128,7 @@ ready-kept x st c o range r =
       carrier = r .carrier;
     }
 
-module _ (x : Sending) (ok : (k : ℕ) → k < countIn x → Facts x k) where
+module _ (x : Shipment) (ok : (k : ℕ) → k < countIn x → Facts x k) where
   some : 1 ≤ countIn x
   some = go (segmentedIn x) refl
     where
@@ -136,16 +137,16 @@ module _ (x : Sending) (ok : (k : ℕ) → k < countIn x → Facts x k) where
       go false e = simp e (omega arith)
 
   abbrev upTo : ℕ → List ℕ
-  upTo j = stretches (firstIn x) (laterIn x) (x .whole) j
+  upTo j = pieces (firstIn x) (laterIn x) (x .whole) j
 
   abbrev part : ℕ → List ℕ
-  part k = stretchOf (firstIn x) (laterIn x) (x .whole) k
+  part k = pieceOf (firstIn x) (laterIn x) (x .whole) k
 
   upTo-most : (j : ℕ) → length (upTo j) ≤ 2048
   upTo-most zero = omega arith
   upTo-most (suc j) =
       let most = ok 0 some .size in
-      let e : upTo (suc j) ≡ take (firstIn x + j * laterIn x) (x .whole) = rw add-one at (stretches-step (firstIn x) (laterIn x) (x .whole) j) in
+      let e : upTo (suc j) ≡ take (firstIn x + j * laterIn x) (x .whole) = rw add-one at (pieces-step (firstIn x) (laterIn x) (x .whole) j) in
       rw (e, length-take) (omega arith)
 
   -- after j segments: the key's place, what it says, and the octets saved there
@@ -170,7 +171,7 @@ module _ (x : Sending) (ok : (k : ℕ) → k < countIn x → Facts x k) where
         instruction = p .instruction;
       }
 
-  module _ (st : State) (r : Ready x st) (report : List ℕ) (room : recordLength ≤ length report) (k : ℕ) (l : k < countIn x) where
+  module _ (st : State) (r : Ready x st) (report : List ℕ) (ample : recordLength ≤ length report) (k : ℕ) (l : k < countIn x) where
     abbrev ps : List Place
     ps = st .table .places
 
@@ -203,7 +204,7 @@ module _ (x : Sending) (ok : (k : ℕ) → k < countIn x → Facts x k) where
         → (isStart line && not (isAt free)) ≡ false
         → came ≡ receptionOf (st .table) report (effectBy line place p free i)
     came-is place free p i e1 e2 e3 e4 line e5 e6 =
-        arrives (st .table) (st .store) report (x .association) sent (headingIn x k) (x .origin) (x .destination) (informationIn x k) reads (r .sound) (r .store) room
+        arrives (st .table) (st .store) report (x .association) sent (headingIn x k) (x .origin) (x .destination) (informationIn x k) reads (r .sound) (r .store) ample
         place free e1 e2 line (rw (e3, e4) e5) e6
         ∙ (λ n. receptionOf (st .table) report (effectBy line place (e3 n) free (e4 n)))
 
@@ -211,8 +212,8 @@ module _ (x : Sending) (ok : (k : ℕ) → k < countIn x → Facts x k) where
     unfolding step
     state-is o e = ap (λ (o : Reception). record { table = o .answer .table; store = o .store }) e
 
-    keeps-by : (o : Reception) → came ≡ o → o .answer .refusal ≡ 0 → isSaved (o .answer .decision) ≡ true → o .answer .records ≡ 0
-        → Keeps (step st call .answer)
+    keeps-by : (o : Reception) → came ≡ o → o .answer .refusal ≡ 0 → isSaved (As (o .answer .decision)) ≡ true → o .answer .records ≡ 0
+        → Saves (step st call .answer)
     unfolding step
     keeps-by o e e1 e2 e3 = record { accepted = rw e e1; saved = rw e e2; records = rw e e3 }
 
@@ -232,7 +233,7 @@ module _ (x : Sending) (ok : (k : ℕ) → k < countIn x → Facts x k) where
 
     ended-by : (instruction segments n : ℕ) → instruction ≡ x .request .instruction → segments ≡ countIn x → n ≡ length (x .whole)
         → take recordLength (splice report 0 (recordsOctets (recordWith delivered 0 (keyIn x) instruction segments n ∷ []))) ≡ recordOctets (recordIn x)
-    ended-by instruction segments n e1 e2 e3 = rw (e1, e2, e3) (one-reported (recordIn x) report key-address room)
+    ended-by instruction segments n e1 e2 e3 = rw (e1, e2, e3) (one-reported (recordIn x) report key-address ample)
 
     -- the only one
     module _ (whole-one : segmentedIn x ≡ false) where
@@ -250,7 +251,7 @@ module _ (x : Sending) (ok : (k : ℕ) → k < countIn x → Facts x k) where
           carries : informationIn x k ≡ x .whole
           carries = rw whole-one
 
-          lone : isAlone (headingIn x k .new) (headingIn x k .remaining .0) ≡ true
+          lone : isUnsegmented (headingIn x k .new) (headingIn x k .remaining .0) ≡ true
           lone = ok k l .alone ∙ rw whole-one
 
           delivers : partOf sent (f .information) (length (x .whole)) ≡ x .whole
@@ -304,7 +305,7 @@ module _ (x : Sending) (ok : (k : ℕ) → k < countIn x → Facts x k) where
               came-is (At (p .place)) (lowestFree ps) (p .held) (part k) there refl (p .kept .there) carries Next
               (line ∙ rw (ne-eqb (countIn x - 1 - k) 0 (omega arith))) refl
 
-          keeps : Keeps (step st call .answer)
+          keeps : Saves (step st call .answer)
           unfolding effectOf
           keeps = keeps-by _ went refl refl refl
 
@@ -350,7 +351,7 @@ module _ (x : Sending) (ok : (k : ℕ) → k < countIn x → Facts x k) where
           returns = returns-by _ ended refl refl (ended-by _ _ _ (p .instruction) (omega (arith, p .segments)) octets-is) delivers
 
   -- the first of several
-  module _ (st : State) (r : Ready x st) (report : List ℕ) (room : recordLength ≤ length report) (several : segmentedIn x ≡ true) where
+  module _ (st : State) (r : Ready x st) (report : List ℕ) (ample : recordLength ≤ length report) (several : segmentedIn x ≡ true) where
     abbrev places : List Place
     places = st .table .places
 
@@ -363,7 +364,7 @@ module _ (x : Sending) (ok : (k : ℕ) → k < countIn x → Facts x k) where
         (ok 0 some .alone ∙ rw several) (omega (arith, ok 0 some .ten)) refl
 
     start : Place
-    start = begun (st .table) (keyIn x) (headingIn x 0) (length (part 0))
+    start = begun (st .table .clock) (keyIn x) (headingIn x 0) (length (part 0))
 
     -- its place, wherever it is
     placed : (m : ℕ) → m < length places → ((j : ℕ) → j < m → holds (keyIn x) (getD places j noPlace) ≡ false)
@@ -381,35 +382,35 @@ module _ (x : Sending) (ok : (k : ℕ) → k < countIn x → Facts x k) where
         record { place = m; held = start; kept = kept; remaining = omega arith; segments = refl; octets = refl; instruction = refl }
 
     record Begun (place : Found) : Type 0 where
-      answer : Begins (step st begins .answer) place (isAt place)
+      answer : BeginsAs (step st begins .answer) place (isAt place)
       progress : Progress 1 (step st begins .state)
 
     restarted : (m : ℕ) → placeOf (keyIn x) places ≡ At m → IsFirst (holds (keyIn x)) places (At m) → Begun (At m)
     unfolding step effectOf start
     restarted m e h =
-        let went = came-is st r report room 0 some (At m) (lowestFree places) (getD places m noPlace) (part 0) e refl refl (carries st r report room 0 some several) Restart
+        let went = came-is st r report ample 0 some (At m) (lowestFree places) (getD places m noPlace) (part 0) e refl refl (carries st r report ample 0 some several) Restart
         (begun-line true _ _) refl in
         record {
           answer = record {
             accepted = ap (λ (o : Reception). o .answer .refusal) went;
-            lost = ap (λ (o : Reception). o .answer .decision) went;
+            lost = ap (λ (o : Reception). As (o .answer .decision)) went;
             records = ap (λ (o : Reception). o .answer .records) went;
           };
-          progress = subst (λ (u : State). Progress 1 u) (sym (state-is st r report room 0 some _ went)) (begun-progress m _ (placed m (h .0) (h .2)));
+          progress = subst (λ (u : State). Progress 1 u) (sym (state-is st r report ample 0 some _ went)) (begun-progress m _ (placed m (h .0) (h .2)));
         }
 
     started : (m : ℕ) → placeOf (keyIn x) places ≡ Nothing → lowestFree places ≡ At m → IsFirst (holds (keyIn x)) places Nothing → IsFirst isFree places (At m)
         → Begun Nothing
     unfolding effectOf start
     started m e e′ h g =
-        let went = came-is st r report room 0 some Nothing (At m) freePlace (part 0) e e′ refl (carries st r report room 0 some several) Start (begun-line false _ _) refl in
+        let went = came-is st r report ample 0 some Nothing (At m) freePlace (part 0) e e′ refl (carries st r report ample 0 some several) Start (begun-line false _ _) refl in
         record {
-          answer = keeps-by st r report room 0 some _ went refl refl refl;
-          progress = subst (λ (u : State). Progress 1 u) (sym (state-is st r report room 0 some _ went))
+          answer = keeps-by st r report ample 0 some _ went refl refl refl;
+          progress = subst (λ (u : State). Progress 1 u) (sym (state-is st r report ample 0 some _ went))
               (begun-progress m _ (placed m (g .0) (λ j l. h j (omega (arith, g .0)))));
         }
 
-    begun-first : HasRoom x st → Begun (placeOf (keyIn x) places)
+    begun-first : CanTake x st → Begun (placeOf (keyIn x) places)
     begun-first = go (placeOf (keyIn x) places) refl (place-is (keyIn x) places) (lowestFree places) refl (free-is places)
       where
         go : (place : Found) → placeOf (keyIn x) places ≡ place → IsFirst (holds (keyIn x)) places place → (free : Found) → lowestFree places ≡ free
@@ -421,37 +422,125 @@ module _ (x : Sending) (ok : (k : ℕ) → k < countIn x → Facts x k) where
   -- between the segments
   ahead : {st st′ : State} {i j : ℕ} → Meanwhile ours x st i st′ j → i ≤ j
   ahead stop = omega arith
-  ahead (mine report room rest) = let l = ahead rest in omega arith
+  ahead (mine report ample rest) = let l = ahead rest in omega arith
   ahead (other c range spares rest) = ahead rest
 
   along : {st st′ : State} {i j : ℕ} → segmentedIn x ≡ true → Meanwhile ours x st i st′ j → 1 ≤ i → j < countIn x → Ready x st → Progress i st
       → Ready x st′ × Progress j st′
   along several stop one under r p = (r, p)
-  along several (mine {st} {st′} {i} {j} report room rest) one under r p =
+  along several (mine {st} {st′} {i} {j} report ample rest) one under r p =
       let l = ahead rest in
       along several rest (omega arith) under (ready-kept x st (arrivalOf x i report) refl (r .carrier) r)
-      (goes-on st r report room i (omega arith) several p one (omega arith))
+      (goes-on st r report ample i (omega arith) several p one (omega arith))
   along several (other {st} {st′} {i} {j} c range spares rest) one under r p =
       along several rest one under (ready-kept x st c (not-opening st (keyIn x) c spares) range r) (progress-kept i st c r spares p)
 
   round-trip : (st : State) → Ready x st → (report : List ℕ) → recordLength ≤ length report → RoundTrip ours x st report
-  round-trip st r report room =
+  round-trip st r report ample =
       record {
-        alone = λ whole-one. returns-alone st r report room 0 some whole-one;
-        first = λ several some. begun-first st r report room several some .answer;
+        alone = λ whole-one. returns-alone st r report ample 0 some whole-one;
+        first = λ several some. begun-first st r report ample several some .answer;
         later = λ several some j under st′ rest again wide-enough.
             let l = ahead rest in
             let there = along several rest (omega arith) under (ready-kept x st (arrivalOf x 0 report) refl (r .carrier) r)
-            (begun-first st r report room several some .progress) in (
+            (begun-first st r report ample several some .progress) in (
               λ more. keeps st′ (there .0) again wide-enough j under several (there .1) (omega arith) more,
               λ last. returns st′ (there .0) again wide-enough j under several (there .1) (omega arith) last,
             );
       }
 
+  -- the same of one call, by what its state holds
+  so-far : (j : ℕ) → upTo j ≡ soFar x j
+  so-far zero = refl
+  so-far (suc j) = rw add-one at (pieces-step (firstIn x) (laterIn x) (x .whole) j)
+
+  underway : (j : ℕ) (st : State) → Ready x st → Progress j st → Underway x j st
+  underway j st r p =
+      let k = p .kept in
+      record {
+        ready = r;
+        place = p .place;
+        there = first-at (holds (keyIn x)) (st .table .places) (p .place) (k .first);
+        remaining = ap (λ (q : Place). q .remaining .0) (k .there) ∙ p .remaining;
+        segments = ap (λ (q : Place). q .segments) (k .there) ∙ p .segments;
+        octets = ap (λ (q : Place). q .octets) (k .there) ∙ p .octets ∙ ap length (so-far j);
+        instruction = ap (λ (q : Place). q .instruction) (k .there) ∙ p .instruction;
+        saved = rw (so-far j) at (k .stretch);
+      }
+
+  progress : (j : ℕ) (st : State) → Underway x j st → Progress j st
+  progress j st u =
+      record {
+        place = u .place;
+        held = placeIn x st (u .place);
+        kept = record {
+          first = subst (IsFirst (holds (keyIn x)) (st .table .places)) (u .there) (place-is (keyIn x) (st .table .places));
+          there = refl;
+          stretch = rw (so-far j) (u .saved);
+        };
+        remaining = u .remaining;
+        segments = u .segments;
+        octets = u .octets ∙ ap length (sym (so-far j));
+        instruction = u .instruction;
+      }
+
+  spared-underway : (st : State) (c : Call) → InRange c → (j : ℕ) → Underway x j st → Spares st (keyIn x) c → Underway x j (step st c .state)
+  spared-underway st c range j u spares =
+      underway j (step st c .state) (ready-kept x st c (not-opening st (keyIn x) c spares) range (u .ready)) (progress-kept j st c (u .ready) spares (progress j st u))
+
+  module _ (st : State) (report : List ℕ) (ample : recordLength ≤ length report) where
+    first-underway : segmentedIn x ≡ true → Ready x st → CanTake x st
+        → BeginsAs (step st (arrivalOf x 0 report) .answer) (placeOf (keyIn x) (st .table .places)) (isAt (placeOf (keyIn x) (st .table .places)))
+        × Underway x 1 (step st (arrivalOf x 0 report) .state)
+    first-underway several r can =
+        let b = begun-first st r report ample several can in
+        (b .answer, underway 1 _ (ready-kept x st (arrivalOf x 0 report) refl (r .carrier) r) (b .progress))
+
+    later-underway : segmentedIn x ≡ true → (j : ℕ) → 1 ≤ j → j < countIn x → Underway x j st
+        → (suc j < countIn x → Saves (step st (arrivalOf x j report) .answer) × Underway x (suc j) (step st (arrivalOf x j report) .state))
+        × (suc j ≡ countIn x → Returns x (seenBy ours st (arrivalOf x j report)))
+    later-underway several j one under u =
+        let r = u .ready in
+        let p = progress j st u in (
+          λ more. (
+            keeps st r report ample j under several p one more,
+            underway (suc j) _ (ready-kept x st (arrivalOf x j report) refl (r .carrier) r) (goes-on st r report ample j under several p one more),
+          ),
+          λ last. returns st r report ample j under several p one last,
+        )
+
+all-facts : (x : Shipment) → CanBeSent x → (k : ℕ) → k < countIn x → Facts x k
+all-facts x can k l = facts x (can k l .0) k (can k l .1)
+
+-- demand 2 of one call
+pub carries-all : (st : State) (c : Call) → InRange c → Carries (seenBy ours st c)
+carries-all st c range =
+    record {
+      sends = λ x a k e f can.
+          subst (λ (c : Call). IsSent x a k (seenBy ours st c)) (sym f) (subst (λ (st : State). IsSent x a k (seenBy ours st (sendingOf x a k))) (sym e) (made-is x a k can));
+      arrives = λ x can.
+          (let ok = all-facts x can in
+          record {
+            alone = λ one r report ample e.
+                subst (λ (c : Call). Returns x (seenBy ours st c)) (sym e) (returns-alone x ok st r report ample 0 (some x ok) one);
+            first = λ several r vacant report ample e.
+                subst
+                (λ (c : Call).
+                BeginsAs (step st c .answer) (placeOf (keyIn x) (st .table .places)) (isAt (placeOf (keyIn x) (st .table .places))) × Underway x 1 (step st c .state))
+                (sym e) (first-underway x ok st report ample several r vacant);
+            later = λ several j one under u report ample e.
+                subst
+                (λ (c : Call).
+                (suc j < countIn x → Saves (step st c .answer) × Underway x (suc j) (step st c .state)) × (suc j ≡ countIn x → Returns x (seenBy ours st c)))
+                (sym e) (later-underway x ok st report ample several j one under u);
+          });
+      spares = λ x can j u spares. spared-underway x (all-facts x can) st c range j u spares;
+    }
+
 pub demand-2 : Demand2 ours
 demand-2 =
     record {
       made = made-is;
-      back = λ x from can st r report room. round-trip x (λ k l. facts x (from k) k (can k l)) st r report room;
+      back = λ x from can st r report ample. round-trip x (λ k l. facts x (from k) k (can k l)) st r report ample;
       delivers = λ d s store. refl;
     }

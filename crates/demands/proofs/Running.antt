@@ -5,10 +5,9 @@ use mathlib.Core.Bool.{Bool, true, false}
 use mathlib.Core.List.{List, [], _∷_, map}
 use lib.Dec.{eqb}
 use Rattle.rules.specs.General.{if_then_else_}
-use Rattle.rules.specs.Delivery.{delivery}
 use Rattle.rules.specs.Calls.{State, Call, Opens, Arrives, Ticks, Releases, Sends, Opening, step}
 use Rattle.demands.specs.Machine.{Machine, ours, parameterOf, isOpening, All, InRange}
-use Rattle.demands.specs.Seen.{Seen, Chained, seenBy, runOf}
+use Rattle.demands.specs.Seen.{Seen, Chained, handing, seenBy, runOf}
 use Rattle.demands.specs.History.{Told, Deed, deedsOf, counted, didAll, after, silence, Along, Meets}
 use Rattle.demands.specs.Exactly.{ByRules}
 
@@ -42,7 +41,7 @@ module _ (d : Told → Seen → Type 0) (I : State → Told → Type 0)
 -- what is seen of a call that is as the rules have it is what is seen of ours; so what holds along the runs of ours holds along every run of such calls
 ruled-seen : (x : Seen) → ByRules x → x ≡ seenBy ours (x .before) (x .call)
 ruled-seen x r =
-    let h = r .handed ∙ (λ i. delivery (r .answer i .decision) (parameterOf (x .call)) (r .state i .store)) in
+    let h = r .handed ∙ (λ i. handing ours (r .answer i .decided) (parameterOf (x .call)) (r .state i .store)) in
     λ i. record { before = x .before; call = x .call; answer = r .answer i; left = r .state i; handed = h i }
 
 abbrev callsOf : List Seen → List Call

@@ -12,7 +12,7 @@ use lib.Seq.{take-all}
 use Rattle.octets.proofs.Splice.{splice-length}
 use Rattle.rules.specs.General.{if_then_else_}
 use Rattle.rules.specs.Numbers.{placeStart, storeLeast, placeCount, addressMost, stretchLength}
-use Rattle.rules.specs.Layout.{isAlone}
+use Rattle.rules.specs.Layout.{isUnsegmented}
 use Rattle.rules.specs.Records.{delivered, lost}
 use Rattle.rules.specs.Places.{noPlace, freePlace, isOpen, isFree, holds, placeOf, lowestFree, placeAt, isAt}
 use Rattle.rules.specs.Soundness.{sound}
@@ -119,18 +119,18 @@ module _ (t : Table) (store s : List ℕ) (f : Fields) (k : Key) (u : Key → Li
     stays : (k′ : Key) → heldFrom store k′ 0 (t .places) ≡ owing (filed u k [] k′)
     stays k′ = exact k′ ∙ ap owing (sym (filed-none u k none k′))
 
-    alone-done : (place room : Found) (p : Place) → Done Unsegmented (effectOf Unsegmented t store k f octets place p room)
+    alone-done : (place vacant : Found) (p : Place) → Done Unsegmented (effectOf Unsegmented t store k f octets place p vacant)
     unfolding effectOf delivery
-    alone-done place room p =
+    alone-done place vacant p =
         ended-by Unsegmented refl (Delivered (OfParameter (f .information) (length octets))) delivered 0 (f .heading .instruction) 1 (length octets) (t .places) store
         (omega (arith, small)) refl
         (counted-one x (u k) _ none refl refl refl)
         (part-tail s (f .information) ∙ rw none (simp append-nil))
         stays
 
-    lone-done : (cause : ℕ) (room : Found) → Done (Broken cause) (effectOf (Broken cause) t store k f octets Nothing freePlace room)
+    lone-done : (cause : ℕ) (vacant : Found) → Done (Broken cause) (effectOf (Broken cause) t store k f octets Nothing freePlace vacant)
     unfolding effectOf delivery
-    lone-done cause room =
+    lone-done cause vacant =
         ended-by (Broken cause) refl (Lost cause Nothing) lost cause (f .heading .instruction) (0 + 1) (0 + length octets) (t .places) store (omega (arith, small)) refl
         (counted-one x (u k) _ none (omega arith) (omega arith) refl) refl stays
 
@@ -138,14 +138,14 @@ module _ (t : Table) (store s : List ℕ) (f : Fields) (k : Key) (u : Key → Li
   within : (i : ℕ) → i < length (t .places) → (at : ℕ) → at + length octets ≤ 2048 → placeStart i + at + length octets ≤ length store
   within i l at h = omega arith
 
-  begun-view : (i : ℕ) → i < length (t .places) → viewOf (saveAt store i 0 octets) i (begun t k (f .heading) (length octets)) ∷ [] ≡ owing (x ∷ [])
+  begun-view : (i : ℕ) → i < length (t .places) → viewOf (saveAt store i 0 octets) i (begun (t .clock) k (f .heading) (length octets)) ∷ [] ≡ owing (x ∷ [])
   begun-view i l =
       let n = append-nil octets in
       let b = small in
       let r : take (length octets) (drop (placeStart i) (saveAt store i 0 octets)) ≡ octets = rw zero-add at (save-read store i 0 octets (within i l 0 (omega arith))) in
       λ j. viewed (f .heading .remaining .0) 1 (length (sym n j)) (f .heading .instruction) (t .clock) ((r ∙ sym n) j) ∷ []
 
-  begun-holds : holds k (begun t k (f .heading) (length octets)) ≡ true
+  begun-holds : holds k (begun (t .clock) k (f .heading) (length octets)) ≡ true
   begun-holds = same-self k
 
   apart0 : (i : ℕ) → Apart store (saveAt store i 0 octets) (t .places) i
@@ -162,16 +162,16 @@ module _ (t : Table) (store s : List ℕ) (f : Fields) (k : Key) (u : Key → Li
     size : p .octets + length octets < 2 ^ 16
     size = let o = octets-short t good i inside in let b = small in omega arith
 
-    broken-done : (cause : ℕ) (room : Found) → Done (Broken cause) (effectOf (Broken cause) t store k f octets (At i) p room)
+    broken-done : (cause : ℕ) (vacant : Found) → Done (Broken cause) (effectOf (Broken cause) t store k f octets (At i) p vacant)
     unfolding effectOf delivery
-    broken-done cause room =
+    broken-done cause vacant =
         ended-by (Broken cause) refl (Lost cause (At i)) lost cause (p .instruction) (p .segments + 1) (p .octets + length octets) (set (t .places) i freePlace) store size refl
         (counted-more (viewOf store i p) x (u k) _ owed-here refl refl refl) refl
         (freed store store (t .places) u exact i freePlace inside (λ j l e. refl) k op refl)
 
-    restart-done : (room : Found) → Done Restart (effectOf Restart t store k f octets (At i) p room)
+    restart-done : (vacant : Found) → Done Restart (effectOf Restart t store k f octets (At i) p vacant)
     unfolding effectOf delivery
-    restart-done room =
+    restart-done vacant =
         record {
           fits = (record { address = fit .address; association = fit .association; context = fit .context; octets = let z = size in omega arith }, tt);
           one = omega arith;
@@ -179,12 +179,12 @@ module _ (t : Table) (store s : List ℕ) (f : Fields) (k : Key) (u : Key → Li
           fair = (counted-all (viewOf store i p) (u k) _ owed-here refl refl refl, tt);
           handed = refl;
           exact = λ k′.
-              renewed store (saveAt store i 0 octets) (t .places) u exact i (begun t k (f .heading) (length octets)) inside (apart0 i) k (x ∷ []) op begun-holds (begun-view i inside) k′
+              renewed store (saveAt store i 0 octets) (t .places) u exact i (begun (t .clock) k (f .heading) (length octets)) inside (apart0 i) k (x ∷ []) op begun-holds (begun-view i inside) k′
               ∙ ap owing (sym (filed-again u k [] (x ∷ []) k′))
               ∙ ap (λ (l : List Segment). owing (filed (filed u k []) k (l ++ (x ∷ [])) k′)) (sym (filed-same u k []));
         }
 
-    module _ (room : Found) (fits : p .octets + length octets ≤ 2048) where
+    module _ (vacant : Found) (fits : p .octets + length octets ≤ 2048) where
       abbrev store′ : List ℕ
       store′ = saveAt store i (p .octets) octets
 
@@ -197,7 +197,7 @@ module _ (t : Table) (store s : List ℕ) (f : Fields) (k : Key) (u : Key → Li
           let l = splice-length store (placeStart i + p .octets) octets in
           simp (lt-ltb i placeCount (omega arith), le-leb (p .octets + length octets) stretchLength fits, le-leb (placeStart i + (p .octets + length octets)) (length store′) (omega arith))
 
-      final-done : Done Final (effectOf Final t store k f octets (At i) p room)
+      final-done : Done Final (effectOf Final t store k f octets (At i) p vacant)
       unfolding effectOf delivery
       final-done =
           ended-by Final refl (Delivered (OfStore i (p .octets + length octets))) delivered 0 (p .instruction) (p .segments + 1) (p .octets + length octets)
@@ -206,7 +206,7 @@ module _ (t : Table) (store s : List ℕ) (f : Fields) (k : Key) (u : Key → Li
           (part ∙ read ∙ sym (joined-owed (viewOf store i p) x (u k) owed-here) ∙ sym (append-nil (joined (u k ++ (x ∷ [])))))
           (freed store store′ (t .places) u exact i freePlace inside (apart-save t good store i (p .octets) octets fits) k op refl)
 
-      next-done : Done Next (effectOf Next t store k f octets (At i) p room)
+      next-done : Done Next (effectOf Next t store k f octets (At i) p vacant)
       unfolding effectOf
       next-done =
           saved-by Next refl refl i (set (t .places) i (longer p k (f .heading) (length octets))) store′
@@ -219,15 +219,15 @@ module _ (t : Table) (store s : List ℕ) (f : Fields) (k : Key) (u : Key → Li
       → Done Start (effectOf Start t store k f octets place q (At i))
   unfolding effectOf
   start-done i place q inside shut none =
-      saved-by Start refl refl i (set (t .places) i (begun t k (f .heading) (length octets))) (saveAt store i 0 octets)
-      (λ k′. started store (saveAt store i 0 octets) (t .places) u exact i (begun t k (f .heading) (length octets)) inside (apart0 i) k (x ∷ []) shut
+      saved-by Start refl refl i (set (t .places) i (begun (t .clock) k (f .heading) (length octets))) (saveAt store i 0 octets)
+      (λ k′. started store (saveAt store i 0 octets) (t .places) u exact i (begun (t .clock) k (f .heading) (length octets)) inside (apart0 i) k (x ∷ []) shut
       (exact k ∙ ap owing none) begun-holds (begun-view i inside) k′
       ∙ ap (λ (l : List Segment). owing (filed u k (l ++ (x ∷ [])) k′)) (sym none))
 
   never : {A : Type 0} → true ≡ false → A
   never e = absurd (let z : _≡_ {A = ℕ} 0 1 = cc in omega arith)
 
-  starts : (room : Found) → IsFirst isFree (t .places) room → not (isAt room) ≡ false → u k ≡ [] → Done Start (effectOf Start t store k f octets Nothing freePlace room)
+  starts : (vacant : Found) → IsFirst isFree (t .places) vacant → not (isAt vacant) ≡ false → u k ≡ [] → Done Start (effectOf Start t store k f octets Nothing freePlace vacant)
   starts (At i) h e none =
       let m = eqb-true (getD (t .places) i noPlace .mark) 0 (h .1) in
       start-done i Nothing freePlace (h .0) (ne-eqb (getD (t .places) i noPlace .mark) 1 (omega arith)) none
@@ -254,7 +254,7 @@ module _ (t : Table) (store s : List ℕ) (f : Fields) (k : Key) (u : Key → Li
       go Nothing h = rw (none-there h)
 
   -- every line
-  pub segment-done : (isAlone (f .heading .new) (f .heading .remaining .0) ≡ true → u k ≡ [])
+  pub segment-done : (isUnsegmented (f .heading .new) (f .heading .remaining .0) ≡ true → u k ≡ [])
       → (isStart (lineAt t k (f .heading) (length octets)) && not (isAt (lowestFree (t .places)))) ≡ false
       → Done (lineAt t k (f .heading) (length octets))
       (effectOf (lineAt t k (f .heading) (length octets)) t store k f octets (placeOf k (t .places)) (placeAt (t .places) (placeOf k (t .places))) (lowestFree (t .places)))

@@ -8,10 +8,10 @@ use borrow.Author.Tests.{eqb-true, leb-true, leb-false, ne-eqb, le-leb, not-true
 use lib.Dec.{eqb, leb}
 use lib.ListN.{length, getD, length-drop}
 use Rattle.rules.specs.General.{if_then_else_, every, everyTwo}
-use Rattle.rules.specs.Numbers.{entriesMost, timerInRange, age}
+use Rattle.rules.specs.Numbers.{entriesMost, timerInRange, elapsed}
 use Rattle.rules.specs.Refusals.{Check, _when_, accepted, first}
 use Rattle.rules.specs.Registry.{kindOf, entriesOf, isCut, isUnused, isEntry, isUsable, entriesApart, listsRegistry}
-use Rattle.rules.specs.Layout.{isAlone, contextOf, fieldsOf, readingChecks}
+use Rattle.rules.specs.Layout.{isUnsegmented, contextOf, fieldsOf, readingChecks}
 use Rattle.rules.specs.Places.{noPlace, freePlace, holds, isOpen, isAt, placeOf, placeAt, putPlace, lowestFree}
 use Rattle.rules.specs.Soundness.{isZero, addressSound, openSound, freeSound, placeSound, placesApart, sound}
 use Rattle.rules.specs.Opening.{emptyTable, openingChecks}
@@ -74,7 +74,7 @@ module _ (t : Table) (ok : SoundTable t) where
         put-good i x s (λ j b d. apart-own k x (getD ps i noPlace) (getD ps j noPlace) e (h .1) (two-at ps i j (ok .apart) (h .0) b (λ z. d (sym z))))
     own-good Nothing h x e s = same-good
 
-    new-good : (f : Found) → IsFirst (holds k) ps f → isAt f ≡ false → (room : Found) (x : Place) → x .key ≡ k → SoundIn t x → Good t (putPlace ps room x)
+    new-good : (f : Found) → IsFirst (holds k) ps f → isAt f ≡ false → (vacant : Found) (x : Place) → x .key ≡ k → SoundIn t x → Good t (putPlace ps vacant x)
     new-good f h n Nothing x e s = same-good
     new-good (At j) h n (At i) x e s = let z : _≡_ {A = ℕ} 0 1 = cc in let y : ⊥ = omega arith in absurd y
     new-good Nothing h n (At i) x e s = put-good i x s (λ j b d. apart-new k x (getD ps j noPlace) e (h j b))
@@ -89,7 +89,7 @@ module _ (t : Table) (ok : SoundTable t) where
 open-place : (registry : List Entry) (timer clock : ℕ) (p : Place) → isOpen p ≡ true → openSound registry timer clock p ≡ true → placeSound registry timer clock p ≡ true
 open-place registry timer clock p o s = rw (o, s)
 
-not-alone : (new : Bool) (r : ℕ) → 1 ≤ r → isAlone new r ≡ false
+not-alone : (new : Bool) (r : ℕ) → 1 ≤ r → isUnsegmented new r ≡ false
 not-alone true r h = ne-eqb r 0 (λ e. omega arith)
 not-alone false r h = refl
 
@@ -131,7 +131,7 @@ module _ (t : Table) (association : ℕ) (s : List ℕ) (reading : accepted (rea
   information = let short = parameter-short (t .registry) s reading in rw length-drop (omega arith)
 
   open-sound : (instruction segments octets start : ℕ) → 1 ≤ f .heading .remaining .0 → f .heading .remaining .0 ≤ 9 → instruction ≤ 3 → 1 ≤ segments
-      → segments + f .heading .remaining .0 ≤ 10 → octets ≤ 2048 → age (t .clock) start < t .timer
+      → segments + f .heading .remaining .0 ≤ 10 → octets ≤ 2048 → elapsed (t .clock) start < t .timer
       → SoundIn t (openPlace key (f .heading .remaining) instruction segments octets start)
   open-sound instruction segments octets start some nine three one ten most young =
       let p : Place = openPlace key (f .heading .remaining) instruction segments octets start in
@@ -150,9 +150,9 @@ module _ (t : Table) (association : ℕ) (s : List ℕ) (reading : accepted (rea
         young = young;
       }))
 
-age-none : (time : ℕ) → age time time ≡ 0
-unfolding age
-age-none time = omega arith
+elapsed-none : (time : ℕ) → elapsed time time ≡ 0
+unfolding elapsed
+elapsed-none time = omega arith
 
 -- every line keeps the places good
 module _ (t : Table) (ok : SoundTable t) (association : ℕ) (s : List ℕ) (reading : accepted (readingChecks (t .registry) s) ≡ true) where
@@ -165,24 +165,24 @@ module _ (t : Table) (ok : SoundTable t) (association : ℕ) (s : List ℕ) (rea
   abbrev octets : List ℕ
   octets = informationOf s g
 
-  fresh : 1 ≤ g .heading .remaining .0 → g .heading .remaining .0 ≤ 9 → SoundIn t (begun t k (g .heading) (length octets))
+  fresh : 1 ≤ g .heading .remaining .0 → g .heading .remaining .0 ≤ 9 → SoundIn t (begun (t .clock) k (g .heading) (length octets))
   fresh some nine =
       let one = leb-true 1 (t .timer) (and-eq-true-iff (leb 1 (t .timer)) (leb (t .timer) 1000000) .0 (ok .timer) .0) in
       open-sound t association s reading _ _ _ _ some nine (instruction t association s reading) (omega arith) (omega arith)
-      (omega (arith, information t association s reading)) (omega (arith, age-none (t .clock)))
+      (omega (arith, information t association s reading)) (omega (arith, elapsed-none (t .clock)))
 
-  segment-good : (store : List ℕ) (place : Found) → IsFirst (holds k) (t .places) place → (room : Found)
+  segment-good : (store : List ℕ) (place : Found) → IsFirst (holds k) (t .places) place → (vacant : Found)
       → let p : Place = placeAt (t .places) place in
-      Good t (effectOf (lineOf (isAt place) (p .remaining .0) (p .octets) (g .heading) (length octets)) t store k g octets place p room .places)
+      Good t (effectOf (lineOf (isAt place) (p .remaining .0) (p .octets) (g .heading) (length octets)) t store k g octets place p vacant .places)
   unfolding effectOf
-  segment-good store place h room =
+  segment-good store place h vacant =
       let p : Place = placeAt (t .places) place in
-      line-cases (λ (line : Line). Good t (effectOf line t store k g octets place p room .places)) (isAt place) (p .remaining .0) (p .octets) (g .heading) (length octets)
+      line-cases (λ (line : Line). Good t (effectOf line t store k g octets place p vacant .places)) (isAt place) (p .remaining .0) (p .octets) (g .heading) (length octets)
       (record {
         unsegmented = λ a b. same-good t ok;
         beyond = λ a. free-good t ok place;
         restart = λ a b some nine. own-good t ok k place h _ refl (fresh some nine);
-        start = λ a b some nine. new-good t ok k place h b room _ refl (fresh some nine);
+        start = λ a b some nine. new-good t ok k place h b vacant _ refl (fresh some nine);
         stray = λ a b c. free-good t ok place;
         gap = λ a b c d. free-good t ok place;
         over = λ a b c d e. free-good t ok place;
@@ -221,7 +221,7 @@ young registry timer clock time p d s = go (isOpen p) refl
     go : (b : Bool) → isOpen p ≡ b → placeSound registry timer time p ≡ true
     go true o =
         let old = open-parts registry timer clock p (open-is registry timer clock p s o) in
-        let age-less = leb-false timer (age time (p .start)) (simp o at d) in
+        let elapsed-less = leb-false timer (elapsed time (p .start)) (simp o at d) in
         open-place registry timer time p o
         (open-of registry timer time p
         (record {
@@ -234,7 +234,7 @@ young registry timer clock time p d s = go (isOpen p) refl
           count = old .count;
           octets = old .octets;
           address = old .address;
-          young = age-less;
+          young = elapsed-less;
         }))
     go false o = simp o (simp o at s)
 
@@ -268,7 +268,7 @@ empty-sound registry timer time e =
       apart = refl;
     })
 
-opened : (st : State) (x : Opening) → accepted (openingChecks (x .registry) (x .timer)) ≡ true → sound (step st (Opens x) .state .table) ≡ true
+pub opened : (st : State) (x : Opening) → accepted (openingChecks (x .registry) (x .timer)) ≡ true → sound (step st (Opens x) .state .table) ≡ true
 unfolding step
 opened st x ok =
     opened-by (λ (o : Opened). sound (o .table) ≡ true) (x .registry) (x .timer) (x .time) (empty-sound (x .registry) (x .timer) (x .time)) (λ e. cc)
@@ -315,7 +315,7 @@ passes-1 st c o s e = go c o (others-least st c) e
     go (Releases x) o h e = over-1 (sound (st .table)) (others (checksOf st (Releases x))) h s e
     go (Sends x) o h e = over-1 (sound (st .table)) (others (checksOf st (Sends x))) h s e
 
-leaves-sound : (st : State) (c : Call) → LeavesSound (seenBy ours st c)
+pub leaves-sound : (st : State) (c : Call) → LeavesSound (seenBy ours st c)
 leaves-sound st c = record { opened = go c; kept = kept st c }
   where
     go : (c : Call) → isOpening c ≡ true → accepted (checksOf st c) ≡ true → sound (step st c .state .table) ≡ true
@@ -330,7 +330,7 @@ abbrev SoundOnce : State → Told → Type 0
 SoundOnce st h = h .opened ≡ true → sound (st .table) ≡ true
 
 -- an opening has no check with the number 1
-opening-over-1 : (st : State) (o : Opening) → step st (Opens o) .answer .refusal ≡ 1 → ⊥
+pub opening-over-1 : (st : State) (o : Opening) → step st (Opens o) .answer .refusal ≡ 1 → ⊥
 opening-over-1 st o e = go (accepted (checksOf st (Opens o))) refl
   where
     least : Least 2 (checksOf st (Opens o))

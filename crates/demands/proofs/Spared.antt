@@ -12,7 +12,7 @@ use Rattle.octets.proofs.Splice.{splice-length, splice-below, splice-above}
 use Rattle.rules.specs.General.{if_then_else_, those}
 use Rattle.rules.specs.Numbers.{dataMost, storeLeast, placeStart}
 use Rattle.rules.specs.Refusals.{Check, _when_, accepted, first}
-use Rattle.rules.specs.Layout.{isAlone, fieldsOf, readingChecks}
+use Rattle.rules.specs.Layout.{isUnsegmented, fieldsOf, readingChecks}
 use Rattle.rules.specs.Places.{noPlace, freePlace, isOpen, isFree, holds, firstFrom, placeOf, lowestFree, numberOf, putPlace, placeAt, isAt}
 use Rattle.rules.specs.Records.{recordLength}
 use Rattle.rules.specs.Soundness.{sound}
@@ -125,7 +125,7 @@ broken-fits n false false false false false false l h = h
 line-fits : (isOpen : Bool) (before saved : ℕ) (g : Heading) (n : ℕ) → Fitting (lineOf isOpen before saved g n) (saved + n)
 unfolding lineOf
 line-fits isOpen before saved g n =
-    broken-fits (saved + n) (isAlone (g .new) (g .remaining .0)) (ltb 9 (g .remaining .0)) (g .new && isOpen) (g .new) (not isOpen) (not (eqb (g .remaining .0 + 1) before)) _
+    broken-fits (saved + n) (isUnsegmented (g .new) (g .remaining .0)) (ltb 9 (g .remaining .0)) (g .new && isOpen) (g .new) (not isOpen) (not (eqb (g .remaining .0 + 1) before)) _
     (go (ltb dataMost (saved + n)) refl (eqb (g .remaining .0) 0))
   where
     go : (b : Bool) → ltb dataMost (saved + n) ≡ b → (c : Bool) → Fitting (if b then Broken 5 else if c then Final else Next) (saved + n)
@@ -144,35 +144,35 @@ module _ (k : Key) (i : ℕ) (p : Place) (saved : List ℕ) (size : length saved
   stored-kept ps store m at octets apart fits kept =
       record { first = kept .first; there = kept .there; stretch = save-kept store i m at (length saved) octets apart fits size ∙ kept .stretch }
 
-  module _ (t : Table) (store : List ℕ) (key : Key) (f : Fields) (octets : List ℕ) (place : Found) (q : Place) (room : Found)
-      (kept : Kept k i p saved (t .places) store) (other : key ≡ k → ⊥) (apart : numberOf place ≡ i → ⊥) (away : numberOf room ≡ i → ⊥)
+  module _ (t : Table) (store : List ℕ) (key : Key) (f : Fields) (octets : List ℕ) (place : Found) (q : Place) (vacant : Found)
+      (kept : Kept k i p saved (t .places) store) (other : key ≡ k → ⊥) (apart : numberOf place ≡ i → ⊥) (away : numberOf vacant ≡ i → ⊥)
       (short : length octets ≤ 2048) where
     effect-kept : (l : Line) → Fitting l (q .octets + length octets)
-        → Kept k i p saved (effectOf l t store key f octets place q room .places) (effectOf l t store key f octets place q room .store)
+        → Kept k i p saved (effectOf l t store key f octets place q vacant .places) (effectOf l t store key f octets place q vacant .store)
     unfolding effectOf
     effect-kept Unsegmented fits = kept
     effect-kept (Broken cause) fits = put-kept (t .places) store place freePlace apart refl kept
     effect-kept Restart fits =
-        let new : Place = begun t key (f .heading) (length octets) in
+        let new : Place = begun (t .clock) key (f .heading) (length octets) in
         stored-kept _ store (numberOf place) 0 octets apart (omega arith) (put-kept (t .places) store place new apart (not-held k new other) kept)
     effect-kept Start fits =
-        let new : Place = begun t key (f .heading) (length octets) in
-        stored-kept _ store (numberOf room) 0 octets away (omega arith) (put-kept (t .places) store room new away (not-held k new other) kept)
+        let new : Place = begun (t .clock) key (f .heading) (length octets) in
+        stored-kept _ store (numberOf vacant) 0 octets away (omega arith) (put-kept (t .places) store vacant new away (not-held k new other) kept)
     effect-kept Final fits =
         stored-kept _ store (numberOf place) (q .octets) octets apart fits (put-kept (t .places) store place freePlace apart refl kept)
     effect-kept Next fits =
         let new : Place = longer q key (f .heading) (length octets) in
         stored-kept _ store (numberOf place) (q .octets) octets apart fits (put-kept (t .places) store place new apart (not-held k new other) kept)
 
-effect-length : (t : Table) (store : List ℕ) (key : Key) (f : Fields) (octets : List ℕ) (place : Found) (q : Place) (room : Found) (l : Line)
-    → length (effectOf l t store key f octets place q room .store) ≡ length store
+effect-length : (t : Table) (store : List ℕ) (key : Key) (f : Fields) (octets : List ℕ) (place : Found) (q : Place) (vacant : Found) (l : Line)
+    → length (effectOf l t store key f octets place q vacant .store) ≡ length store
 unfolding effectOf
-effect-length t store key f octets place q room Unsegmented = refl
-effect-length t store key f octets place q room (Broken cause) = refl
-effect-length t store key f octets place q room Restart = splice-length store _ octets
-effect-length t store key f octets place q room Start = splice-length store _ octets
-effect-length t store key f octets place q room Final = splice-length store _ octets
-effect-length t store key f octets place q room Next = splice-length store _ octets
+effect-length t store key f octets place q vacant Unsegmented = refl
+effect-length t store key f octets place q vacant (Broken cause) = refl
+effect-length t store key f octets place q vacant Restart = splice-length store _ octets
+effect-length t store key f octets place q vacant Start = splice-length store _ octets
+effect-length t store key f octets place q vacant Final = splice-length store _ octets
+effect-length t store key f octets place q vacant Next = splice-length store _ octets
 
 -- the checks of a segment before its octets
 abbrev pub lentChecks : Table → List ℕ → List ℕ → List Check

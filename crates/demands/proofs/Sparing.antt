@@ -13,7 +13,7 @@ use Rattle.rules.specs.Records.{recordsFrom}
 use Rattle.rules.specs.Places.{noPlace, isOpen}
 use Rattle.rules.specs.Soundness.{openSound, placeSound, sound}
 use Rattle.rules.specs.Receiving.{segmentChecks}
-use Rattle.rules.specs.Sweep.{lossOf, sweep, Sweeping, unswept, reportLeast, isDue, isOf, clockChecks, releaseChecks, clock, release}
+use Rattle.rules.specs.Sweep.{lossOf, sweep, Sweeping, unswept, reportLeast, isDue, isOf, clockChecks, releaseChecks, clock, release, lossesBy}
 use Rattle.rules.specs.Calls.{State, Call, Opens, Arrives, Ticks, Releases, Sends, step}
 use Rattle.rules.specs.declared.Entry.{Entry}
 use Rattle.rules.specs.declared.Key.{Key}
@@ -42,38 +42,38 @@ loss-fits r timer clock cause p usable e typed =
 
 module _ (test : Place → Bool) (opens : (p : Place) → test p ≡ true → isOpen p ≡ true) (cause : ℕ) where
   losses-fit : (r : List Entry) (timer clock : ℕ) (ps : List Place) → every isUsable r ≡ true → every (placeSound r timer clock) ps ≡ true → All TypedPlace ps
-      → AllFit (map (lossOf cause) (those test ps))
+      → AllFit (lossesBy test cause ps)
   losses-fit r timer clock [] usable e typed = tt
   losses-fit r timer clock (p ∷ ps) usable e typed = go (test p) refl (losses-fit r timer clock ps usable (both .1) (typed .1))
     where
       both : (placeSound r timer clock p ≡ true) × (every (placeSound r timer clock) ps ≡ true)
       both = and-eq-true-iff (placeSound r timer clock p) _ .0 e
 
-      go : (b : Bool) → test p ≡ b → AllFit (map (lossOf cause) (those test ps)) → AllFit (map (lossOf cause) (if b then p ∷ those test ps else those test ps))
+      go : (b : Bool) → test p ≡ b → AllFit (lossesBy test cause ps) → AllFit (map (lossOf cause) (if b then p ∷ those test ps else those test ps))
       go true t later = (loss-fits r timer clock cause p usable (open-is r timer clock p (both .0) (opens p t)) (typed .0), later)
       go false t later = later
 
-  losses-few : (ps : List Place) → length (map (lossOf cause) (those test ps)) ≤ length ps
+  losses-few : (ps : List Place) → length (lossesBy test cause ps) ≤ length ps
   losses-few [] = omega arith
   losses-few (p ∷ ps) = go (test p) (losses-few ps)
     where
-      go : (b : Bool) → length (map (lossOf cause) (those test ps)) ≤ length ps
+      go : (b : Bool) → length (lossesBy test cause ps) ≤ length ps
           → length (map (lossOf cause) (if b then p ∷ those test ps else those test ps)) ≤ suc (length ps)
       go true l = omega arith
       go false l = omega arith
 
   module _ (t : Table) (good : sound t ≡ true) (typed : Typed t) (time : ℕ) (report : List ℕ) where
     pub sweep-back : reportLeast ≤ length report
-        → recordsFrom (sweep test cause time t report .answer .records) (sweep test cause time t report .report) ≡ map (lossOf cause) (those test (t .places))
+        → recordsFrom (sweep test cause time t report .answer .records) (sweep test cause time t report .report) ≡ lossesBy test cause (t .places)
     unfolding sweep
     sweep-back h =
         let few = losses-few (t .places) in
         let count = typed .count in
-        records-back (map (lossOf cause) (those test (t .places))) report
+        records-back (lossesBy test cause (t .places)) report
         (losses-fit (t .registry) (t .timer) (t .clock) (t .places) (registry-usable t good) (places-sound t good) (typed .each)) (omega arith)
 
     module _ (k : Key) (i : ℕ) (p : Place) (saved store : List ℕ) (none : test noPlace ≡ false) (checks : List Check)
-        (room : accepted checks ≡ true → reportLeast ≤ length report) (kept : Kept k i p saved (t .places) store) where
+        (ample : accepted checks ≡ true → reportLeast ≤ length report) (kept : Kept k i p saved (t .places) store) where
       abbrev done : Bool → Sweeping
       done b = if b then sweep test cause time t report else unswept t report (first checks)
 
@@ -86,7 +86,7 @@ module _ (test : Place → Bool) (opens : (p : Place) → test p ≡ true → is
               → Kept k i p saved (done b .answer .table .places) store
           go true e others =
               sweep-kept k i p saved store test cause (t .places) none
-              (subst (λ (rs : List Record). All (λ (r : Record). r .key ≡ k → ⊥) rs) (sweep-back (room e)) others) kept
+              (subst (λ (rs : List Record). All (λ (r : Record). r .key ≡ k → ⊥) rs) (sweep-back (ample e)) others) kept
           go false e others = kept
 
 swept-registry : (test : Place → Bool) (cause time : ℕ) (t : Table) (report : List ℕ) (n : ℕ) (b : Bool)
@@ -95,13 +95,13 @@ unfolding sweep
 swept-registry test cause time t report n true = refl
 swept-registry test cause time t report n false = refl
 
-clock-room : (t : Table) (report : List ℕ) (time : ℕ) → accepted (clockChecks t report time) ≡ true → reportLeast ≤ length report
+clock-ample : (t : Table) (report : List ℕ) (time : ℕ) → accepted (clockChecks t report time) ≡ true → reportLeast ≤ length report
 unfolding clockChecks
-clock-room t report time e = ltb-false (length report) reportLeast (not-true _ ((simp and-eq-true-iff at e) .1 .0))
+clock-ample t report time e = ltb-false (length report) reportLeast (not-true _ ((simp and-eq-true-iff at e) .1 .0))
 
-release-room : (t : Table) (report : List ℕ) → accepted (releaseChecks t report) ≡ true → reportLeast ≤ length report
+release-ample : (t : Table) (report : List ℕ) → accepted (releaseChecks t report) ≡ true → reportLeast ≤ length report
 unfolding releaseChecks
-release-room t report e = ltb-false (length report) reportLeast (not-true _ ((simp and-eq-true-iff at e) .1 .0))
+release-ample t report e = ltb-false (length report) reportLeast (not-true _ ((simp and-eq-true-iff at e) .1 .0))
 
 -- the place and what was saved there
 pub spared : (k : Key) (i : ℕ) (p : Place) (saved : List ℕ) → length saved ≤ 2048 → (st : State) (c : Call) → sound (st .table) ≡ true → Typed (st .table)
@@ -116,10 +116,10 @@ spared k i p saved size st (Arrives x) good typed spares kept = go (accepted (se
     go false e = rw (segment-refused (st .table) (st .store) (x .report) (x .association) (x .parameter) e) kept
 spared k i p saved size st (Ticks x) good typed spares kept =
     judged-kept (isDue (x .time) (st .table .timer)) (λ q e. and-eq-true-iff (isOpen q) _ .0 e .0) 6 (st .table) good typed (x .time) (x .report) k i p saved (st .store) refl
-    (clockChecks (st .table) (x .report) (x .time)) (clock-room (st .table) (x .report) (x .time)) kept spares
+    (clockChecks (st .table) (x .report) (x .time)) (clock-ample (st .table) (x .report) (x .time)) kept spares
 spared k i p saved size st (Releases x) good typed spares kept =
     judged-kept (isOf (x .association)) (λ q e. and-eq-true-iff (isOpen q) _ .0 e .0) 7 (st .table) good typed (st .table .clock) (x .report) k i p saved (st .store) refl
-    (releaseChecks (st .table) (x .report)) (release-room (st .table) (x .report)) kept spares
+    (releaseChecks (st .table) (x .report)) (release-ample (st .table) (x .report)) kept spares
 spared k i p saved size st (Sends x) good typed spares kept = kept
 
 -- the registry and the store's length

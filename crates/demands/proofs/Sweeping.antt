@@ -5,7 +5,7 @@ use mathlib.Core.Bool.{Bool, true, false}
 use mathlib.Core.List.{List, [], _∷_, _++_, append-assoc, map}
 use Rattle.rules.specs.General.{if_then_else_, those}
 use Rattle.rules.specs.Places.{sameKey, isOpen, holds}
-use Rattle.rules.specs.Sweep.{lossOf, freedBy}
+use Rattle.rules.specs.Sweep.{lossOf, freedBy, lossesBy}
 use Rattle.rules.specs.declared.Key.{Key}
 use Rattle.rules.specs.declared.Place.{Place}
 use Rattle.rules.specs.declared.Record.{Record}
@@ -15,14 +15,11 @@ use Rattle.demands.specs.History.{Segment, filed, settled, coversOf}
 use Rattle.demands.specs.Demand3.{IsLost, View, Fair, owed, viewOf, heldFrom, owing}
 use Rattle.demands.proofs.Holding.{here, held-cons, Single, single, counted-all, holds-other}
 
-abbrev pub losses : (Place → Bool) → ℕ → List Place → List Record
-losses test cause ps = map (lossOf cause) (those test ps)
-
 -- `a` is what the places before hold
 pub record Swept (store : List ℕ) (test : Place → Bool) (cause i : ℕ) (ps : List Place) (u : Key → List Segment) (a : Key → List View) : Type 0 where
-  pub fair : All Fair (coversOf u (losses test cause ps))
-  pub quiet : owed (coversOf u (losses test cause ps)) ≡ []
-  pub exact : (k : Key) → a k ++ heldFrom store k i (map (freedBy test) ps) ≡ owing (settled u (losses test cause ps) k)
+  pub fair : All Fair (coversOf u (lossesBy test cause ps))
+  pub quiet : owed (coversOf u (lossesBy test cause ps)) ≡ []
+  pub exact : (k : Key) → a k ++ heldFrom store k i (map (freedBy test) ps) ≡ owing (settled u (lossesBy test cause ps) k)
 
 module _ (store : List ℕ) (test : Place → Bool) (opens : (p : Place) → test p ≡ true → isOpen p ≡ true) (cause : ℕ) where
   sweep-hit : (i : ℕ) (p : Place) (ps : List Place) (u : Key → List Segment) (a : Key → List View) → ((k : Key) → a k ++ heldFrom store k i (p ∷ ps) ≡ owing (u k)) → test p ≡ true
@@ -67,11 +64,11 @@ module _ (store : List ℕ) (test : Place → Bool) (opens : (p : Place) → tes
                 ∙ sym (append-assoc (a k) (here store k i p) (heldFrom store k (suc i) (map (freedBy test) ps))) ∙ r .exact k);
           }
 
--- all of them are losses with that cause
-pub losses-lost : (test : Place → Bool) (cause : ℕ) (ps : List Place) → All (IsLost cause) (losses test cause ps)
+-- all of them are lossesBy with that cause
+pub losses-lost : (test : Place → Bool) (cause : ℕ) (ps : List Place) → All (IsLost cause) (lossesBy test cause ps)
 losses-lost test cause [] = tt
 losses-lost test cause (p ∷ ps) = go (test p) (losses-lost test cause ps)
   where
-    go : (b : Bool) → All (IsLost cause) (losses test cause ps) → All (IsLost cause) (map (lossOf cause) (if b then p ∷ those test ps else those test ps))
+    go : (b : Bool) → All (IsLost cause) (lossesBy test cause ps) → All (IsLost cause) (map (lossOf cause) (if b then p ∷ those test ps else those test ps))
     go true all = (record { kind = refl; cause = refl }, all)
     go false all = all

@@ -9,13 +9,13 @@ use borrow.Author.Tests.{eqb-true, ne-eqb, leb-true, le-leb, ltb-true}
 use lib.Dec.{eqb, leb, ltb}
 use lib.ListN.{length}
 use Rattle.rules.specs.General.{if_then_else_, every, those}
-use Rattle.rules.specs.Numbers.{age}
+use Rattle.rules.specs.Numbers.{elapsed}
 use Rattle.rules.specs.Refusals.{accepted}
 use Rattle.rules.specs.Records.{lost}
 use Rattle.rules.specs.Places.{sameKey, isOpen, holds}
 use Rattle.rules.specs.Soundness.{placeSound, openSound, sound}
 use Rattle.rules.specs.Receiving.{lineOf}
-use Rattle.rules.specs.Sweep.{lossOf, reportLeast, isDue, clock}
+use Rattle.rules.specs.Sweep.{lossOf, reportLeast, isDue, clock, lossesBy}
 use Rattle.rules.specs.Calls.{State, Call, Opens, Arrives, Ticks, Releases, Sends, Opening, Tick, step}
 use Rattle.rules.specs.declared.Entry.{Entry}
 use Rattle.rules.specs.declared.Key.{Key}
@@ -24,25 +24,20 @@ use Rattle.rules.specs.declared.Table.{Table}
 use Rattle.rules.specs.declared.Heading.{Heading}
 use Rattle.rules.specs.declared.Line.{Line}
 use Rattle.rules.specs.declared.Record.{Record}
-use Rattle.rules.proofs.Numbers.{age-leads, age-is}
+use Rattle.rules.proofs.Numbers.{elapsed-leads, elapsed-is}
 use Rattle.rules.proofs.Held.{open-is, places-sound}
 use Rattle.demands.specs.Machine.{ours, isOpening, All, InRange}
 use Rattle.demands.specs.Seen.{seenBy}
 use Rattle.demands.specs.History.{Segment, Told, Deed, Takes, Passes, Ends, filed, settled, arrived, leftIn, recordsIn, deedsOf, beginning, counted, didAll, EachDeed, EachIn, after, isRestart, keyIn, segmentIn, lineIn}
-use Rattle.demands.specs.Demand3.{Ending, endingOf, endingsOf, Received, Ruled, IsLost, View, viewOf, heldFrom, held, owing}
+use Rattle.demands.specs.Demand3.{Ending, endingOf, endingsOf, TakenBy, Ruled, IsLost, View, viewOf, heldFrom, held, owing}
+use Rattle.demands.specs.Demanded.{Early}
 use Rattle.demands.specs.Timer.{lostBy, isOld, ticksAfter, Timed, Timer}
 use Rattle.demands.proofs.ByLine.{line-cases}
 use Rattle.demands.proofs.Spared.{clash}
-use Rattle.demands.proofs.Sweeping.{losses}
 use Rattle.demands.proofs.Accepting.{clock-good}
 use Rattle.demands.proofs.Refused.{zero-accepted}
 use Rattle.demands.proofs.Kept.{Inv, due-open, made-back, open-done, call-done, inv-opened, inv-call}
 use Rattle.demands.proofs.Running.{either, meets}
-
--- the first segment's age on the clock is its true age
-abbrev pub Early : ℕ → ℕ → List Segment → Type 0
-Early time ticks [] = Unit {0}
-Early time ticks (x ∷ l) = (x .time < 2 ^ 32) × (x .ticks ≤ ticks) × (age time (x .time) ≡ ticks - x .ticks)
 
 abbrev pub Prompt : ℕ → ℕ → (Key → List Segment) → Type 0
 Prompt time ticks u = (k : Key) → Early time ticks (u k)
@@ -68,7 +63,7 @@ module _ (time ticks : ℕ) where
   early-more x (y ∷ l) a b = b
 
   early-arrived : (u : Key → List Segment) (k : Key) (x : Segment) → x .time ≡ time → x .ticks ≡ ticks → time < 2 ^ 32 → Prompt time ticks u → Prompt time ticks (arrived u k x)
-  unfolding age
+  unfolding elapsed
   early-arrived u k x e f b p = early-filed u k (u k ++ (x ∷ [])) p (early-more x (u k) (rw e b, rw f (omega arith), rw (e, f) (omega arith)) (p k))
 
   early-left : (restart : Bool) (u : Key → List Segment) (k : Key) (x : Segment) (rs : List Record) → x .time ≡ time → x .ticks ≡ ticks → time < 2 ^ 32 → Prompt time ticks u
@@ -80,27 +75,27 @@ module _ (time ticks : ℕ) where
 turns : (new now old a b : ℕ) → (a + old) % 2 ^ 32 ≡ now → (b + now) % 2 ^ 32 ≡ new → (a + b + old) % 2 ^ 32 ≡ new
 turns new now old a b e f = omega arith
 
-age-more : (new now old ticks was : ℕ) → new < 2 ^ 32 → now < 2 ^ 32 → old < 2 ^ 32 → was ≤ ticks → age now old ≡ ticks - was → age now old < 1000001 → age new now < 2 ^ 31
-    → age new old ≡ ticks + age new now - was
-age-more new now old ticks was a b c d e f g =
-    let r = turns new now old (age now old) (age new now) (age-leads now old b c) (age-leads new now a b) in
-    let q = age-is new old (age now old + age new now) a c (omega arith) r in
+elapsed-more : (new now old ticks was : ℕ) → new < 2 ^ 32 → now < 2 ^ 32 → old < 2 ^ 32 → was ≤ ticks → elapsed now old ≡ ticks - was → elapsed now old < 1000001 → elapsed new now < 2 ^ 31
+    → elapsed new old ≡ ticks + elapsed new now - was
+elapsed-more new now old ticks was a b c d e f g =
+    let r = turns new now old (elapsed now old) (elapsed new now) (elapsed-leads now old b c) (elapsed-leads new now a b) in
+    let q = elapsed-is new old (elapsed now old + elapsed new now) a c (omega arith) r in
     omega arith
 
-open-young : (registry : List Entry) (timer clock : ℕ) (p : Place) → openSound registry timer clock p ≡ true → ltb (age clock (p .start)) timer ≡ true
+open-young : (registry : List Entry) (timer clock : ℕ) (p : Place) → openSound registry timer clock p ≡ true → ltb (elapsed clock (p .start)) timer ≡ true
 unfolding openSound
 open-young registry timer clock p e = (simp and-eq-true-iff at e) .1
 
 -- the views of open places that are not T old
 young-held : (registry : List Entry) (timer clock : ℕ) (store : List ℕ) (k : Key) (i : ℕ) (ps : List Place) → every (placeSound registry timer clock) ps ≡ true
-    → every (λ (w : View). ltb (age clock (w .start)) timer) (heldFrom store k i ps) ≡ true
+    → every (λ (w : View). ltb (elapsed clock (w .start)) timer) (heldFrom store k i ps) ≡ true
 young-held registry timer clock store k i [] e = refl
 young-held registry timer clock store k i (p ∷ ps) e =
     let both = and-eq-true-iff (placeSound registry timer clock p) (every (placeSound registry timer clock) ps) .0 e in
     go (holds k p) refl (both .0) (young-held registry timer clock store k (suc i) ps (both .1))
   where
-    go : (b : Bool) → holds k p ≡ b → placeSound registry timer clock p ≡ true → every (λ (w : View). ltb (age clock (w .start)) timer) (heldFrom store k (suc i) ps) ≡ true
-        → every (λ (w : View). ltb (age clock (w .start)) timer) (if b then viewOf store i p ∷ heldFrom store k (suc i) ps else heldFrom store k (suc i) ps) ≡ true
+    go : (b : Bool) → holds k p ≡ b → placeSound registry timer clock p ≡ true → every (λ (w : View). ltb (elapsed clock (w .start)) timer) (heldFrom store k (suc i) ps) ≡ true
+        → every (λ (w : View). ltb (elapsed clock (w .start)) timer) (if b then viewOf store i p ∷ heldFrom store k (suc i) ps else heldFrom store k (suc i) ps) ≡ true
     go true h q ih = simp (open-young registry timer clock p (open-is registry timer clock p q (and-eq-true-iff (isOpen p) (sameKey (p .key) k) .0 h .0)), ih)
     go false h q ih = ih
 
@@ -111,14 +106,14 @@ anyOf seen (w ∷ ws) = seen w || anyOf seen ws
 -- a sweep loses a key exactly where what is held of it passes the test
 pub swept-is : (cause : ℕ) → eqb cause cause ≡ true → (test : Place → Bool) (seen : View → Bool) (store : List ℕ) (k : Key)
     → ((i : ℕ) (p : Place) → sameKey (p .key) k ≡ true → test p ≡ (isOpen p && seen (viewOf store i p)))
-    → (i : ℕ) (ps : List Place) → lostBy cause k (losses test cause ps) ≡ anyOf seen (heldFrom store k i ps)
+    → (i : ℕ) (ps : List Place) → lostBy cause k (lossesBy test cause ps) ≡ anyOf seen (heldFrom store k i ps)
 unfolding anyOf
 swept-is cause own test seen store k fits i [] = refl
 swept-is cause own test seen store k fits i (p ∷ ps) =
     go (test p) (isOpen p) (sameKey (p .key) k) (seen (viewOf store i p)) refl refl (fits i p) (swept-is cause own test seen store k fits (suc i) ps)
   where
     go : (b o s d : Bool) → sameKey (p .key) k ≡ s → seen (viewOf store i p) ≡ d → (s ≡ true → b ≡ (o && d))
-        → lostBy cause k (losses test cause ps) ≡ anyOf seen (heldFrom store k (suc i) ps)
+        → lostBy cause k (lossesBy test cause ps) ≡ anyOf seen (heldFrom store k (suc i) ps)
         → lostBy cause k (map (lossOf cause) (if b then p ∷ those test ps else those test ps))
         ≡ anyOf seen (if o && s then viewOf store i p ∷ heldFrom store k (suc i) ps else heldFrom store k (suc i) ps)
     go true true false d q e f ih = simp q ih
@@ -138,7 +133,7 @@ timer-most t s = leb-true (t .timer) 1000000 ((simp and-eq-true-iff at s) .0 .0 
 
 -- a view is T old
 abbrev olds : ℕ → ℕ → View → Bool
-olds timer time w = leb timer (age time (w .start))
+olds timer time w = leb timer (elapsed time (w .start))
 
 -- No other deed gives a cause over 5 but the release, and that gives 7
 
@@ -170,17 +165,17 @@ mild-other cause b k [] m = refl
 mild-other cause b k (r ∷ []) m = other-cause (sameKey (r .key) k) (eqb (r .kind) lost) (eqb (r .cause) cause) false (ne-eqb (r .cause) cause (omega arith))
 mild-other cause b k (r ∷ q ∷ rs) m = absurd m
 
-pub line-other : (cause : ℕ) → 6 ≤ cause → (h : Told) (association : ℕ) (s : List ℕ) (rs : List Record) → Received h association s rs → (k : Key) → lostBy cause k rs ≡ false
+pub line-other : (cause : ℕ) → 6 ≤ cause → (h : Told) (association : ℕ) (s : List ℕ) (rs : List Record) → TakenBy h association s rs → (k : Key) → lostBy cause k rs ≡ false
 line-other cause b h association s rs d k = mild-other cause b k rs (rw (d .ends) (mild-line _ _ _ _ _ _))
 
 module _ (st : State) (h : Told) (inv : Inv st h) where
   abbrev t : Table
   t = st .table
 
-  ticks-good : (x : Tick) → eqb (step st (Ticks x) .answer .refusal) 0 ≡ true → (sound t ≡ true) × (reportLeast ≤ length (x .report)) × (age (x .time) (t .clock) < 2 ^ 31)
+  ticks-good : (x : Tick) → eqb (step st (Ticks x) .answer .refusal) 0 ≡ true → (sound t ≡ true) × (reportLeast ≤ length (x .report)) × (elapsed (x .time) (t .clock) < 2 ^ 31)
   ticks-good x e = clock-good t (x .report) (x .time) (zero-accepted st (Ticks x) (eqb-true _ 0 e))
 
-  ticks-records : (x : Tick) → eqb (step st (Ticks x) .answer .refusal) 0 ≡ true → recordsIn (step st (Ticks x) .answer) ≡ losses (isDue (x .time) (t .timer)) 6 (t .places)
+  ticks-records : (x : Tick) → eqb (step st (Ticks x) .answer .refusal) 0 ≡ true → recordsIn (step st (Ticks x) .answer) ≡ lossesBy (isDue (x .time) (t .timer)) 6 (t .places)
   unfolding step clock
   ticks-records x e =
       let c = ticks-good x e in
@@ -189,7 +184,7 @@ module _ (st : State) (h : Told) (inv : Inv st h) where
 
   module _ (timely : Timely h) where
     -- what is uncovered is not T old, and stays timed by the clock
-    older : (time : ℕ) → time < 2 ^ 32 → sound t ≡ true → age time (t .clock) < 2 ^ 31 → Prompt time (ticksAfter h time) (h .uncovered)
+    older : (time : ℕ) → time < 2 ^ 32 → sound t ≡ true → elapsed time (t .clock) < 2 ^ 31 → Prompt time (ticksAfter h time) (h .uncovered)
     unfolding held
     older time b good step k = go (h .uncovered k) (inv .agrees .exact k) (timely .early k)
       where
@@ -198,16 +193,16 @@ module _ (st : State) (h : Told) (inv : Inv st h) where
         go (x ∷ l) e y =
             let link = inv .agrees .clock in
             let young = rw e at (young-held (t .registry) (t .timer) (t .clock) (st .store) k 0 (t .places) (places-sound t good)) in
-            let less = ltb-true (age (t .clock) (x .time)) (t .timer) (and-eq-true-iff _ _ .0 young .0) in
-            let now : age (h .time) (x .time) < 1000001 = rw (← link) (let m = timer-most t good in omega arith) in
-            let far : age time (h .time) < 2 ^ 31 = rw (← link) step in
-            (y .0, (let z = y .1 in omega arith), age-more time (h .time) (x .time) (h .ticks) (x .ticks) b (timely .time) (y .0) (y .1) (y .2) now far)
+            let less = ltb-true (elapsed (t .clock) (x .time)) (t .timer) (and-eq-true-iff _ _ .0 young .0) in
+            let now : elapsed (h .time) (x .time) < 1000001 = rw (← link) (let m = timer-most t good in omega arith) in
+            let far : elapsed time (h .time) < 2 ^ 31 = rw (← link) step in
+            (y .0, (let z = y .1 in omega arith), elapsed-more time (h .time) (x .time) (h .ticks) (x .ticks) b (timely .time) (y .0) (y .1) (y .2) now far)
 
     -- the same history, counted
     still : Timely (counted h)
     still = record { time = timely .time; early = timely .early }
 
-    timely-call : (c : Call) → InRange c → isOpening c ≡ false → Timely (after h (seenBy ours st c))
+    pub timely-call : (c : Call) → InRange c → isOpening c ≡ false → Timely (after h (seenBy ours st c))
     unfolding after deedsOf
     timely-call (Opens x) r o = absurd (clash refl o)
     timely-call (Arrives x) r o =
@@ -234,7 +229,7 @@ module _ (st : State) (h : Told) (inv : Inv st h) where
     old-is time [] e = (λ z. absurd (clash z refl), λ z. absurd z)
     old-is time (x ∷ l) e =
         let a = e .2 in
-        (λ z. (let q = leb-true (h .timer) (age time (x .time)) (or-false _ z) in omega arith), λ z. simp (le-leb (h .timer) (age time (x .time)) (omega arith)))
+        (λ z. (let q = leb-true (h .timer) (elapsed time (x .time)) (or-false _ z) in omega arith), λ z. simp (le-leb (h .timer) (elapsed time (x .time)) (omega arith)))
       where
         or-false : (b : Bool) → (b || false) ≡ true → b ≡ true
         or-false true q = refl
@@ -254,7 +249,7 @@ module _ (st : State) (h : Told) (inv : Inv st h) where
     abbrev So : List Deed → Type 0
     So ds = EachDeed Ruled (counted h) ds → EachDeed Timed (counted h) ds
 
-    timed-call : (c : Call) → InRange c → isOpening c ≡ false → EachIn Ruled h (seenBy ours st c) → EachIn Timed h (seenBy ours st c)
+    pub timed-call : (c : Call) → InRange c → isOpening c ≡ false → EachIn Ruled h (seenBy ours st c) → EachIn Timed h (seenBy ours st c)
     unfolding EachIn deedsOf
     timed-call (Opens x) r o = absurd (clash refl o)
     timed-call (Arrives x) r o =
@@ -268,7 +263,7 @@ pub record Timing (st : State) (h : Told) : Type 0 where
   pub inv : Inv st h
   pub timely : Timely h
 
-timing-opened : (st : State) (h : Told) (x : Opening) → InRange (Opens x) → Timely (after h (seenBy ours st (Opens x)))
+pub timing-opened : (st : State) (h : Told) (x : Opening) → InRange (Opens x) → Timely (after h (seenBy ours st (Opens x)))
 unfolding after deedsOf
 timing-opened st h x r = go (eqb (step st (Opens x) .answer .refusal) 0)
   where
@@ -276,7 +271,7 @@ timing-opened st h x r = go (eqb (step st (Opens x) .answer .refusal) 0)
     go true = record { time = r; early = λ k. tt }
     go false = record { time = omega arith; early = λ k. tt }
 
-opened-timed : (st : State) (h : Told) (x : Opening) → EachIn Timed h (seenBy ours st (Opens x))
+pub opened-timed : (st : State) (h : Told) (x : Opening) → EachIn Timed h (seenBy ours st (Opens x))
 unfolding EachIn deedsOf
 opened-timed st h x = (tt, tt)
 

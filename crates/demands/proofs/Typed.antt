@@ -61,15 +61,15 @@ key-typed association s f a n p e =
       association = rw e a;
     }
 
-effect-typed : (line : Line) (t : Table) (store : List ℕ) (key : Key) (f : Fields) (octets : List ℕ) (place : Found) (p : Place) (room : Found)
-    → ((q : Place) → q .key ≡ key → TypedPlace q) → TypedPlaces (t .places) → TypedPlaces (effectOf line t store key f octets place p room .places)
+effect-typed : (line : Line) (t : Table) (store : List ℕ) (key : Key) (f : Fields) (octets : List ℕ) (place : Found) (p : Place) (vacant : Found)
+    → ((q : Place) → q .key ≡ key → TypedPlace q) → TypedPlaces (t .places) → TypedPlaces (effectOf line t store key f octets place p vacant .places)
 unfolding effectOf
-effect-typed Unsegmented t store key f octets place p room new h = h
-effect-typed (Broken cause) t store key f octets place p room new h = put-typed (t .places) place _ free-typed h
-effect-typed Restart t store key f octets place p room new h = put-typed (t .places) place _ (new _ refl) h
-effect-typed Start t store key f octets place p room new h = put-typed (t .places) room _ (new _ refl) h
-effect-typed Final t store key f octets place p room new h = put-typed (t .places) place _ free-typed h
-effect-typed Next t store key f octets place p room new h = put-typed (t .places) place _ (new _ refl) h
+effect-typed Unsegmented t store key f octets place p vacant new h = h
+effect-typed (Broken cause) t store key f octets place p vacant new h = put-typed (t .places) place _ free-typed h
+effect-typed Restart t store key f octets place p vacant new h = put-typed (t .places) place _ (new _ refl) h
+effect-typed Start t store key f octets place p vacant new h = put-typed (t .places) vacant _ (new _ refl) h
+effect-typed Final t store key f octets place p vacant new h = put-typed (t .places) place _ free-typed h
+effect-typed Next t store key f octets place p vacant new h = put-typed (t .places) place _ (new _ refl) h
 
 freed-typed : (test : Place → Bool) (ps : List Place) → All TypedPlace ps → All TypedPlace (map (freedBy test) ps)
 freed-typed test [] all = tt

@@ -4,8 +4,7 @@ use mathlib.Core.Bool.{false}
 use mathlib.Core.List.{[]}
 use Rattle.rules.specs.Refusals.{accepted, first}
 use Rattle.rules.specs.Opening.{unopened}
-use Rattle.rules.specs.Calls.{State, Call, Opens, Arrives, Ticks, Releases, Sends, lentOf, answering}
-use Rattle.rules.specs.declared.Decision.the-variants.{Refused}
+use Rattle.rules.specs.Calls.{State, Call, Opens, Arrives, Ticks, Releases, Sends, refusing}
 use Rattle.demands.specs.Machine.{Machine, checksOf}
 use Rattle.demands.specs.Seen.{Seen, seenBy}
 
@@ -20,7 +19,7 @@ refusedState st (Sends x) = st
 -- a refused call: nothing but its number is answered (no record, no count, no length), every lent octet is as it was, and nothing is handed over
 pub record Untouched (x : Seen) : Type 0 where
   pub state : x .left ≡ refusedState (x .before) (x .call)
-  pub answer : x .answer ≡ answering (x .answer .refusal) 0 Refused (lentOf (x .call))
+  pub answer : x .answer ≡ refusing (x .answer .refusal) (x .call)
   pub handed : x .handed ≡ []
 
 -- the number is that of the first check in the paper's order that applies, and 0 exactly where none does

@@ -17,7 +17,7 @@ use Rattle.rules.specs.Soundness.{sound}
 use Rattle.rules.specs.Receiving.{keyOf, recordWith}
 use Rattle.rules.specs.Delivery.{delivery}
 use Rattle.rules.specs.Sending.{headerLength, isSegmented, countOf, segmentOctets}
-use Rattle.rules.specs.Calls.{State, Call, Opens, Arrives, Ticks, Releases, Sends, toArrive, toSend, lending, Answer, step}
+use Rattle.rules.specs.Calls.{State, Call, Opens, Arrives, Ticks, Releases, Sends, toArrive, toSend, lending, Decided, Undecided, As, Answer, step}
 use Rattle.rules.specs.declared.Key.{Key}
 use Rattle.rules.specs.declared.Record.{Record}
 use Rattle.rules.specs.declared.Request.{Request}
@@ -29,7 +29,7 @@ use Rattle.demands.specs.Seen.{Seen, seenBy}
 use Rattle.demands.specs.History.{recordsIn}
 
 -- what is sent: the request but for the segment number, both addresses and the data; the kind of its context; and the association that carries it
-pub record Sending : Type 0 where
+pub record Shipment : Type 0 where
   pub request : Request
   pub origin : List ℕ
   pub destination : List ℕ
@@ -42,17 +42,17 @@ abbrev pub numbered : Request → ℕ → Request
 numbered q k =
     record { context = q .context; instruction = q .instruction; reference = q .reference; room1 = q .room1; room = q .room; number = k }
 
-abbrev pub header : Sending → ℕ
+abbrev pub header : Shipment → ℕ
 header x = headerLength (x .kind) (x .request .context .0) (x .origin) (x .destination)
 
-abbrev pub countIn : Sending → ℕ
+abbrev pub countIn : Shipment → ℕ
 countIn x = countOf (header x) (x .request) (length (x .whole))
 
-abbrev pub segmentedIn : Sending → Bool
+abbrev pub segmentedIn : Shipment → Bool
 segmentedIn x = isSegmented (header x) (x .request) (length (x .whole))
 
 -- the octets of segment k
-abbrev pub segmentOf : Sending → ℕ → List ℕ
+abbrev pub segmentOf : Shipment → ℕ → List ℕ
 segmentOf x k = segmentOctets (x .kind) (numbered (x .request) k) (x .origin) (x .destination) (x .whole)
 
 -- where a segment is sent from: a table and store, and an area. They may be others for each segment
@@ -60,33 +60,33 @@ pub record Sender : Type 0 where
   pub state : State
   pub area : List ℕ
 
-abbrev pub sendingOf : Sending → Sender → ℕ → Call
+abbrev pub sendingOf : Shipment → Sender → ℕ → Call
 sendingOf x a k = toSend (numbered (x .request) k) (x .origin) (x .destination) (x .whole) (a .area)
 
 -- segment k can be sent from there: the context has that kind, and none of sending's conditions for refusal holds, so that the table is sound and the area is long enough
-pub record Sendable (x : Sending) (a : Sender) (k : ℕ) : Type 0 where
+pub record Sendable (x : Shipment) (a : Sender) (k : ℕ) : Type 0 where
   pub kind : kindOf (a .state .table .registry) (x .request .context .0) ≡ x .kind
   pub good : accepted (checksOf (a .state) (sendingOf x a k)) ≡ true
 
 -- segment k is sent: the count of segments, and its octets at the front of the area; the rest of it stays, and so does the state
-abbrev pub sentBy : Sending → Sender → ℕ → Answer
+abbrev pub sentBy : Shipment → Sender → ℕ → Answer
 sentBy x a k =
     record {
       refusal = 0;
       records = 0;
-      decision = Refused;
+      decided = Undecided;
       count = countIn x;
       length = length (segmentOf x k);
       lent = lending [] (splice (a .area) 0 (segmentOf x k));
     }
 
-pub record IsSent (x : Sending) (a : Sender) (k : ℕ) (y : Seen) : Type 0 where
+pub record IsSent (x : Shipment) (a : Sender) (k : ℕ) (y : Seen) : Type 0 where
   pub answer : y .answer ≡ sentBy x a k
   pub state : y .left ≡ a .state
   pub handed : y .handed ≡ []
 
 -- the sequence's key, and the record that ends it
-abbrev pub keyIn : Sending → Key
+abbrev pub keyIn : Shipment → Key
 keyIn x =
     record {
       address = zeroFilled (x .origin);
@@ -96,7 +96,7 @@ keyIn x =
       length = length (x .origin);
     }
 
-abbrev pub recordIn : Sending → Record
+abbrev pub recordIn : Shipment → Record
 recordIn x = recordWith delivered 0 (keyIn x) (x .request .instruction) (countIn x) (length (x .whole))
 
 -- a call that does not touch the sequence of k at a state: by the rules, it is not accepted as a segment of k and makes no record of k
@@ -109,45 +109,46 @@ Spares st k (Releases x) = All (λ (r : Record). r .key ≡ k → ⊥) (recordsI
 Spares st k (Sends x) = Unit {0}
 
 -- segment k arrives
-abbrev pub arrivalOf : Sending → ℕ → List ℕ → Call
+abbrev pub arrivalOf : Shipment → ℕ → List ℕ → Call
 arrivalOf x k report = toArrive (x .association) (segmentOf x k) report
 
 -- calls from a state on in which segments i, i + 1, .. below j arrive in order and nothing else touches their sequence
-pub data Meanwhile (m : Machine) (x : Sending) : State → ℕ → State → ℕ → Type 0 where
+pub data Meanwhile (m : Machine) (x : Shipment) : State → ℕ → State → ℕ → Type 0 where
   stop : {st : State} {i : ℕ} → Meanwhile m x st i st i
   mine : {st st′ : State} {i j : ℕ} (report : List ℕ) → recordLength ≤ length report → Meanwhile m x (m .step st (arrivalOf x i report) .state) (suc i) st′ j → Meanwhile m x st i st′ j
   other : {st st′ : State} {i j : ℕ} (c : Call) → InRange c → Spares st (keyIn x) c → Meanwhile m x (m .step st c .state) i st′ j → Meanwhile m x st i st′ j
 
 -- what an arrival is answered: saved with no record; the loss of what was saved before, for a restart; delivered
-abbrev pub isSaved : Decision → Bool
-isSaved Refused = false
-isSaved (Saved p) = true
-isSaved (Delivered part) = false
-isSaved (Lost cause p) = false
+abbrev pub isSaved : Decided → Bool
+isSaved Undecided = false
+isSaved (As Refused) = false
+isSaved (As (Saved p)) = true
+isSaved (As (Delivered part)) = false
+isSaved (As (Lost cause p)) = false
 
-pub record Keeps (a : Answer) : Type 0 where
+pub record Saves (a : Answer) : Type 0 where
   pub accepted : a .refusal ≡ 0
-  pub saved : isSaved (a .decision) ≡ true
+  pub saved : isSaved (a .decided) ≡ true
   pub records : a .records ≡ 0
 
 pub record Restarts (a : Answer) (place : Found) : Type 0 where
   pub accepted : a .refusal ≡ 0
-  pub lost : a .decision ≡ Lost 3 place
+  pub lost : a .decided ≡ As (Lost 3 place)
   pub records : a .records ≡ 1
 
 -- how the first of several is answered, by the place of its key
-abbrev pub Begins : Answer → Found → Bool → Type 0
-Begins a place true = Restarts a place
-Begins a place false = Keeps a
+abbrev pub BeginsAs : Answer → Found → Bool → Type 0
+BeginsAs a place true = Restarts a place
+BeginsAs a place false = Saves a
 
-pub record Returns (x : Sending) (y : Seen) : Type 0 where
+pub record Returns (x : Shipment) (y : Seen) : Type 0 where
   pub accepted : y .answer .refusal ≡ 0
   pub records : y .answer .records ≡ 1
   pub reported : take recordLength (y .answer .lent .report) ≡ recordOctets (recordIn x)
   pub handed : y .handed ≡ x .whole
 
 -- the receiver's table is sound, with the same kind for the context, and its store is long enough; the numbers are of their types
-pub record Ready (x : Sending) (st : State) : Type 0 where
+pub record Ready (x : Shipment) (st : State) : Type 0 where
   pub sound : sound (st .table) ≡ true
   pub typed : Typed (st .table)
   pub kind : kindOf (st .table .registry) (x .request .context .0) ≡ x .kind
@@ -155,25 +156,25 @@ pub record Ready (x : Sending) (st : State) : Type 0 where
   pub carrier : x .association < 2 ^ 16
 
 -- the first of several can be taken: its key is open, or a place is free
-abbrev pub HasRoom : Sending → State → Type 0
-HasRoom x st = (isAt (placeOf (keyIn x) (st .table .places)) || isAt (lowestFree (st .table .places))) ≡ true
+abbrev pub CanTake : Shipment → State → Type 0
+CanTake x st = (isAt (placeOf (keyIn x) (st .table .places)) || isAt (lowestFree (st .table .places))) ≡ true
 
-pub record RoundTrip (m : Machine) (x : Sending) (st : State) (report : List ℕ) : Type 0 where
+pub record RoundTrip (m : Machine) (x : Shipment) (st : State) (report : List ℕ) : Type 0 where
   -- one segment: delivered at once
   pub alone : segmentedIn x ≡ false → Returns x (seenBy m st (arrivalOf x 0 report))
   -- several: the first is saved
-  pub first : segmentedIn x ≡ true → HasRoom x st
-      → Begins (m .step st (arrivalOf x 0 report) .answer) (placeOf (keyIn x) (st .table .places)) (isAt (placeOf (keyIn x) (st .table .places)))
+  pub first : segmentedIn x ≡ true → CanTake x st
+      → BeginsAs (m .step st (arrivalOf x 0 report) .answer) (placeOf (keyIn x) (st .table .places)) (isAt (placeOf (keyIn x) (st .table .places)))
   -- each later one but the last is saved, and the last delivers
-  pub later : segmentedIn x ≡ true → HasRoom x st → (j : ℕ) → j < countIn x → (st′ : State) → Meanwhile m x (m .step st (arrivalOf x 0 report) .state) 1 st′ j
+  pub later : segmentedIn x ≡ true → CanTake x st → (j : ℕ) → j < countIn x → (st′ : State) → Meanwhile m x (m .step st (arrivalOf x 0 report) .state) 1 st′ j
       → (again : List ℕ) → recordLength ≤ length again
-      → (suc j < countIn x → Keeps (m .step st′ (arrivalOf x j again) .answer)) × (suc j ≡ countIn x → Returns x (seenBy m st′ (arrivalOf x j again)))
+      → (suc j < countIn x → Saves (m .step st′ (arrivalOf x j again) .answer)) × (suc j ≡ countIn x → Returns x (seenBy m st′ (arrivalOf x j again)))
 
 pub record Demand2 (m : Machine) : Type 0 where
   -- every segment is made, wherever it can be sent from
-  pub made : (x : Sending) (a : Sender) (k : ℕ) → Sendable x a k → IsSent x a k (seenBy m (a .state) (sendingOf x a k))
+  pub made : (x : Shipment) (a : Sender) (k : ℕ) → Sendable x a k → IsSent x a k (seenBy m (a .state) (sendingOf x a k))
   -- what can be sent, each segment from somewhere, comes back
-  pub back : (x : Sending) (from : ℕ → Sender) → ((k : ℕ) → k < countIn x → Sendable x (from k) k)
+  pub back : (x : Shipment) (from : ℕ → Sender) → ((k : ℕ) → k < countIn x → Sendable x (from k) k)
       → (st : State) → Ready x st → (report : List ℕ) → recordLength ≤ length report → RoundTrip m x st report
   -- and a delivery is the rule's, whatever decision it is asked for with
   pub delivers : (d : Decision) (s store : List ℕ) → m .deliver d s store ≡ delivery d s store

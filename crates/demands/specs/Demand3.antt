@@ -47,14 +47,14 @@ pub record IsLost (n : ℕ) (r : Record) : Type 0 where
   pub cause : r .cause ≡ n
 
 -- an accepted segment is one that can be read, and its records are those of the line that applies to it
-pub record Received (h : Told) (association : ℕ) (s : List ℕ) (rs : List Record) : Type 0 where
+pub record TakenBy (h : Told) (association : ℕ) (s : List ℕ) (rs : List Record) : Type 0 where
   pub read : accepted (readingChecks (h .registry) s) ≡ true
   pub ends : map endingOf rs ≡ endingsOf (keyIn h association s) (lineIn h association s)
 
 -- the clock's records are losses of cause 6, the release's of cause 7
 abbrev pub Ruled : Told → Deed → Type 0
 Ruled h (Begins o good) = Unit {0}
-Ruled h (Takes association s rs) = Received h association s rs
+Ruled h (Takes association s rs) = TakenBy h association s rs
 Ruled h (Passes time rs) = All (IsLost 6) rs
 Ruled h (Ends association rs) = All (IsLost 7) rs
 

@@ -5,13 +5,12 @@ use mathlib.Core.Path.{_≡_}
 use mathlib.Core.List.{List}
 use lib.ListN.{length}
 use Rattle.rules.specs.Numbers.{placeCount, entriesMost, addressMost}
-use Rattle.rules.specs.Delivery.{delivery}
 use Rattle.rules.specs.Calls.{State, Call, Opens, Arrives, Ticks, Releases, Sends, step}
 use Rattle.rules.specs.declared.Entry.{Entry}
 use Rattle.rules.specs.declared.Place.{Place}
 use Rattle.rules.specs.declared.Request.{Request}
-use Rattle.demands.specs.Machine.{Machine, parameterOf, All}
-use Rattle.demands.specs.Seen.{Seen, seenBy}
+use Rattle.demands.specs.Machine.{Machine, ours, parameterOf, All}
+use Rattle.demands.specs.Seen.{Seen, handing, seenBy}
 
 -- the values of the types: numbers of 8, 16, 32 and 64 bits, and arrays with as many elements as they have
 abbrev pub Bits : ℕ → ℕ → Type 0
@@ -66,7 +65,7 @@ OfCall (Sends x) = OfRequest (x .request) × Octets (x .origin) × Octets (x .de
 pub record ByRules (x : Seen) : Type 0 where
   pub answer : x .answer ≡ step (x .before) (x .call) .answer
   pub state : x .left ≡ step (x .before) (x .call) .state
-  pub handed : x .handed ≡ delivery (x .answer .decision) (parameterOf (x .call)) (x .left .store)
+  pub handed : x .handed ≡ handing ours (x .answer .decided) (parameterOf (x .call)) (x .left .store)
 
 pub record Exactly (m : Machine) : Type 0 where
   pub every : (st : State) (c : Call) → OfState st → OfCall c → ByRules (seenBy m st c)

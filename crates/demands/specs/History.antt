@@ -5,7 +5,7 @@ use mathlib.Core.List.{List, [], _∷_, _++_}
 use lib.Dec.{eqb}
 use lib.ListN.{length}
 use Rattle.rules.specs.General.{if_then_else_}
-use Rattle.rules.specs.Numbers.{age}
+use Rattle.rules.specs.Numbers.{elapsed}
 use Rattle.rules.specs.Registry.{entriesOf}
 use Rattle.rules.specs.Layout.{fieldsOf}
 use Rattle.rules.specs.Records.{recordsFrom}
@@ -197,7 +197,7 @@ did h (Begins o good) = beginning (h .number) o good
 did h (Takes association s rs) =
     going h (h .time) (h .ticks) (leftIn (isRestart (lineIn h association s)) (h .uncovered) (keyIn h association s) (segmentIn h s) rs)
     (record { key = keyIn h association s; segment = segmentIn h s } ∷ []) (coverOf h (Takes association s rs))
-did h (Passes time rs) = going h time (h .ticks + age time (h .time)) (settled (h .uncovered) rs) [] (coversOf (h .uncovered) rs)
+did h (Passes time rs) = going h time (h .ticks + elapsed time (h .time)) (settled (h .uncovered) rs) [] (coversOf (h .uncovered) rs)
 did h (Ends association rs) = going h (h .time) (h .ticks) (settled (h .uncovered) rs) [] (coversOf (h .uncovered) rs)
 
 -- deeds one after the other: the history after them, what their records cover, those records, and a statement of each deed by what was told before it
@@ -241,9 +241,9 @@ covers h x = coversBy (counted h) (deedsOf (x .call) (x .answer))
 unfoldable pub EachIn : (Told → Deed → Type 0) → Told → Seen → Type 0
 EachIn P h x = EachDeed P (counted h) (deedsOf (x .call) (x .answer))
 
--- before the first call
+-- before the first call: as after a refused opening
 abbrev pub silence : Told
-silence = record { number = 0; opened = false; registry = []; timer = 0; time = 0; ticks = 0; uncovered = λ k. []; taken = []; covered = [] }
+silence = record { number = 0; opened = false; registry = registryWith []; timer = 0; time = 0; ticks = 0; uncovered = λ k. []; taken = []; covered = [] }
 
 -- a demand along a run: of each call, by what was told before it
 abbrev pub Along : (Told → Seen → Type 0) → Told → List Seen → Type 0

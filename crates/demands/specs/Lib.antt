@@ -9,5 +9,5 @@ pub mod Soundness
 pub mod Demand2
 pub mod Follows
 pub mod Exactly
-pub mod Bridge
+pub mod Demanded
 pub mod Wrong

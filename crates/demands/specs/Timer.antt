@@ -6,7 +6,7 @@ use mathlib.Core.Bool.{Bool, true, false, _&&_}
 use mathlib.Core.List.{List, [], _∷_}
 use lib.Dec.{eqb}
 use Rattle.rules.specs.General.{if_then_else_}
-use Rattle.rules.specs.Numbers.{age}
+use Rattle.rules.specs.Numbers.{elapsed}
 use Rattle.rules.specs.Records.{lost}
 use Rattle.rules.specs.Places.{sameKey}
 use Rattle.rules.specs.declared.Key.{Key}
@@ -26,7 +26,7 @@ isOld timer ticks (x ∷ l) = timer ≤ ticks - x .ticks
 
 -- the ticks after a clock call
 abbrev pub ticksAfter : Told → ℕ → ℕ
-ticksAfter h time = h .ticks + age time (h .time)
+ticksAfter h time = h .ticks + elapsed time (h .time)
 
 -- a time that has come loses with cause 6 exactly what is T old by then; nothing else does
 abbrev pub Timed : Told → Deed → Type 0

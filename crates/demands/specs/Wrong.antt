@@ -11,14 +11,14 @@ use Rattle.rules.specs.Numbers.{addressMost, stretchLength, placeStart, paramet
 use Rattle.rules.specs.Refusals.{accepted}
 use Rattle.rules.specs.Registry.{kindOf}
 use Rattle.rules.specs.Records.{delivered, lost, recordOctets, recordsOctets}
-use Rattle.rules.specs.Layout.{isAlone, fieldsOf, contextOctets, parameterOctets}
+use Rattle.rules.specs.Layout.{isUnsegmented, fieldsOf, contextOctets, parameterOctets}
 use Rattle.rules.specs.Places.{freePlace, isOpen, isFree, sameOctets, firstFrom, placeOf, lowestFree, isAt, placeAt, putPlace}
 use Rattle.rules.specs.Receiving.{keyOf, informationOf, recordWith, openPlace, lineOf, Effect, effectOf, Reception, receptionOf}
 use Rattle.rules.specs.Sweep.{sweep}
 use Rattle.rules.specs.Opening.{registryWith}
 use Rattle.rules.specs.Delivery.{delivery, partOfPlace}
-use Rattle.rules.specs.Sending.{headerLength, isSegmented, countOf, firstCarries, laterCarries, stretchOf, headingFor, carried, segmentOctets}
-use Rattle.rules.specs.Calls.{State, Call, Opens, Arrives, Ticks, Releases, Sends, Arrival, Tick, Release, Dispatch, lending, lentOf, Answer, answering}
+use Rattle.rules.specs.Sending.{headerLength, isSegmented, countOf, firstCarries, laterCarries, pieceOf, headingFor, carried, segmentOctets}
+use Rattle.rules.specs.Calls.{State, Call, Opens, Arrives, Ticks, Releases, Sends, Arrival, Tick, Release, Dispatch, lending, As, Answer, answering, refusing}
 use Rattle.rules.specs.Calls.{Outcome, afterSegment, afterSweep, afterSending, step}
 use Rattle.rules.specs.declared.Key.{Key}
 use Rattle.rules.specs.declared.Fields.{Fields}
@@ -36,10 +36,6 @@ use Rattle.rules.specs.declared.Decision.{Decision}
 use Rattle.rules.specs.declared.Decision.the-variants.{Refused, Saved, Delivered, Lost}
 use Rattle.demands.specs.Machine.{Machine, checksOf}
 use Rattle.demands.specs.History.{isRestart, recordsIn}
-
--- an answer that gives nothing, with a refusal number
-abbrev nothing : ℕ → Call → Answer
-nothing n c = answering n 0 Refused (lentOf c)
 
 abbrev outcome : Answer → State → Outcome
 outcome a st = record { answer = a; state = st }
@@ -83,14 +79,14 @@ onSending f st (Sends x) = f st x
 
 -- a receiver that refuses everything
 abbrev pub refuses : Machine
-refuses = stepping (onSegment (λ st x. outcome (nothing 1 (Arrives x)) st))
+refuses = stepping (onSegment (λ st x. outcome (refusing 1 (Arrives x)) st))
 
 -- every segment is lost with cause 1, and the state stays
 abbrev pub losesAll : Machine
 losesAll = whereAccepted (onSegment (λ st x.
     let f : Fields = fieldsOf (st .table .registry) (x .parameter) in
     let r : Record = recordWith lost 1 (keyOf (x .association) (x .parameter) f) (f .heading .instruction) 1 (length (informationOf (x .parameter) f)) in
-    outcome (answering 0 1 (Lost 1 Nothing) (lending (splice (x .report) 0 (recordOctets r)) [])) st))
+    outcome (answering 0 1 (As (Lost 1 Nothing)) (lending (splice (x .report) 0 (recordOctets r)) [])) st))
 
 -- the right answers, and table and store stay as before the segment
 abbrev pub forgets : Machine
@@ -105,7 +101,7 @@ savesFirst = stepping (onSegment (λ st x.
 
 -- an answer with these records at the front of its report
 abbrev reporting : Answer → List Record → Answer
-reporting a rs = answering (a .refusal) (length rs) (a .decision) (lending (splice (a .lent .report) 0 (recordsOctets rs)) (a .lent .area))
+reporting a rs = answering (a .refusal) (length rs) (a .decided) (lending (splice (a .lent .report) 0 (recordsOctets rs)) (a .lent .area))
 
 -- the records of every receiving call are others
 abbrev recording : (Record → Record) → Machine
@@ -126,13 +122,13 @@ callsItDelivered = recording (λ r. if eqb (r .octets) 0 then recordWith deliver
 
 -- it never refuses: what ours refuses it takes in silence
 abbrev pub neverRefuses : Machine
-neverRefuses = stepping (λ st c. if accepted (checksOf st c) then step st c else outcome (nothing 0 c) st)
+neverRefuses = stepping (λ st c. if accepted (checksOf st c) then step st c else outcome (refusing 0 c) st)
 
 -- it swallows an unsegmented parameter: accepted, and no record
 abbrev pub swallows : Machine
 swallows = whereAccepted (onSegment (λ st x.
     let f : Fields = fieldsOf (st .table .registry) (x .parameter) in
-    if isAlone (f .heading .new) (f .heading .remaining .0) then outcome (nothing 0 (Arrives x)) st else step st (Arrives x)))
+    if isUnsegmented (f .heading .new) (f .heading .remaining .0) then outcome (refusing 0 (Arrives x)) st else step st (Arrives x)))
 
 -- on a save it hands out the place's stretch of the store
 abbrev tooSoon : Decision → List ℕ → List ℕ → List ℕ
@@ -169,13 +165,13 @@ losesNothing = whereAccepted (onRelease (λ st x.
 
 -- a release ends nothing: accepted, and no record
 abbrev pub releasesNothing : Machine
-releasesNothing = whereAccepted (onRelease (λ st x. outcome (nothing 0 (Releases x)) st))
+releasesNothing = whereAccepted (onRelease (λ st x. outcome (refusing 0 (Releases x)) st))
 
 -- a sending makes a record too
 abbrev pub recordsSending : Machine
 recordsSending = stepping (onSending (λ st x.
     let a : Answer = step st (Sends x) .answer in
-    outcome (record { refusal = a .refusal; records = 1; decision = a .decision; count = a .count; length = a .length; lent = a .lent }) st))
+    outcome (record { refusal = a .refusal; records = 1; decided = a .decided; count = a .count; length = a .length; lent = a .lent }) st))
 
 -- THE RELEASE, as the rules have it but for the table that it leaves with nothing open
 abbrev pub emptying : (Table → Table) → Machine
@@ -228,7 +224,7 @@ abbrev cutAt : ℕ → ℕ → Request → List ℕ → List ℕ → List ℕ �
 cutAt a kind q o d whole =
     let h : ℕ = headerLength kind (q .context .0) o d in
     parameterOctets (headingFor kind h q (length whole)) o d
-    (if isSegmented h q (length whole) then stretchOf a (laterCarries h q) whole (q .number) else whole)
+    (if isSegmented h q (length whole) then pieceOf a (laterCarries h q) whole (q .number) else whole)
 
 -- one more than its room has; one less where the clock is odd, so that segments cut at two times do not fit together
 abbrev pub cutsPast : Machine

@@ -6,21 +6,21 @@ use Rattle.rules.specs.Receiving.{segment}
 use Rattle.rules.specs.Delivery.{delivery}
 use Rattle.rules.specs.declared.Table.{Table}
 use Rattle.rules.specs.declared.Received.{Received}
-use Rattle.crossing.specs.Crossing.{outcomeOf, decisionOf, stretchOf, taken}
-use Rattle.crossing.specs.declared.Outcome.{Outcome}
-use Rattle.host.specs.declared.Arrival.{Arrival}
-use Rattle.crossing.specs.declared.Stretch.{Stretch}
+use Rattle.host_numbers.specs.Crossing.{cDecisionOf, decisionOf, cPartOf, taken}
+use Rattle.host_numbers.specs.declared.CDecision.{CDecision}
+use Rattle.host.specs.declared.CReceived.{CReceived}
+use Rattle.host_numbers.specs.declared.CPart.{CPart}
 
 -- an answer as it crosses
-abbrev pub crossing : Received → Arrival
-crossing r = record { table = r .table; outcome = outcomeOf (r .decision); refusal = r .refusal; records = r .records }
+abbrev pub crossing : Received → CReceived
+crossing r = record { table = r .table; decision = cDecisionOf (r .decision); refusal = r .refusal; records = r .records }
 
-pub record HostSegment (t : Table) (store report : List ℕ) (association : ℕ) (s : List ℕ) (answer : Arrival) (store′ report′ : List ℕ) : Type 0 where
+pub record HostSegment (t : Table) (store report : List ℕ) (association : ℕ) (s : List ℕ) (answer : CReceived) (store′ report′ : List ℕ) : Type 0 where
   pub answered : answer ≡ crossing (segment t store report association s .answer)
   pub stored : store′ ≡ segment t store report association s .store
   pub reported : report′ ≡ segment t store report association s .report
 
 -- the part that the host takes is the delivery
-pub record HostDelivery (o : Outcome) (s store : List ℕ) (answer : Stretch) : Type 0 where
-  pub answered : answer ≡ stretchOf o s store
+pub record HostDelivery (o : CDecision) (s store : List ℕ) (answer : CPart) : Type 0 where
+  pub answered : answer ≡ cPartOf o s store
   pub delivered : taken answer s store ≡ delivery (decisionOf o) s store

@@ -1,6 +1,6 @@
-// The public calls for C. An enum and a returned part do not cross: they cross as numbers, see crossing.
-use crossing::Outcome;
-use crossing::Stretch;
+// The public calls for C. An enum and a returned part do not cross: they cross as numbers, see host_numbers.
+use host_numbers::CDecision;
+use host_numbers::CPart;
 use rules::Opened;
 use rules::Request;
 use rules::Sent;
@@ -10,9 +10,9 @@ ghost use Rattle.rules.specs.Promises.{OfOpening, OfClock, OfRelease, OfSending
 ghost use Rattle.host.specs.Promises.{HostSegment, HostDelivery};
 
 #[repr(C)]
-pub struct Arrival {
+pub struct CReceived {
     pub table: Table,
-    pub outcome: Outcome,
+    pub decision: CDecision,
     pub refusal: u8,
     pub records: u8,
 }
@@ -33,15 +33,15 @@ pub extern "C" fn egrynnol_segment(
     report: &mut [u8],
     association: u16,
     s: &[u8],
-) -> Arrival
+) -> CReceived
     ensures { λ r. ⌜ HostSegment t (now (store .entry)) (now (report .entry)) association (now (s .entry)) r (now (store .exit)) (now (report .exit)) ⌝ }
 {
     let r = receiver::segment(t, store, report, association, s);
     let table = r.table;
     let decision = r.decision;
-    Arrival {
+    CReceived {
         table,
-        outcome: crossing::outcome_of(decision),
+        decision: host_numbers::c_decision_of(decision),
         refusal: r.refusal,
         records: r.records,
     }
@@ -65,12 +65,12 @@ pub extern "C" fn egrynnol_release(t: Table, report: &mut [u8], association: u16
 
 // Where the octets are that a segment delivered.
 #[no_mangle]
-pub extern "C" fn egrynnol_delivery<'a>(outcome: Outcome, s: &'a [u8], store: &'a [u8]) -> Stretch
-    ensures { λ r. ⌜ HostDelivery outcome (now (s .entry)) (now (store .entry)) r ⌝ }
+pub extern "C" fn egrynnol_delivery<'a>(decision: CDecision, s: &'a [u8], store: &'a [u8]) -> CPart
+    ensures { λ r. ⌜ HostDelivery decision (now (s .entry)) (now (store .entry)) r ⌝ }
 {
-    let decision = crossing::decision_of(outcome);
-    let part = receiver::delivery(decision, s, store);
-    crossing::located_at(decision, part.len())
+    let d = host_numbers::decision_of(decision);
+    let part = receiver::delivery(d, s, store);
+    host_numbers::located_at(d, part.len())
 }
 
 // Writes one segment of the data.

@@ -25,15 +25,15 @@ use Rattle.rules.specs.declared.Sent.{Sent}
 use Rattle.rules.specs.declared.Decision.the-variants.{Refused}
 use Rattle.rules.proofs.Refusals.{Sharp, judged-append, judged-by, judged-first, judged-none, accepted-both, first-accepted, accepted-first}
 use Rattle.rules.proofs.Answers.{segment-by}
-use Rattle.rules.proofs.Cutting.{sendable, within-room, count-two, later-carries, first-leaves}
+use Rattle.rules.proofs.Cutting.{cuttable, within-room, count-two, later-carries, first-leaves}
 use Rattle.demands.specs.Machine.{ours, Typed}
 use Rattle.demands.specs.Seen.{seenBy}
-use Rattle.demands.specs.Demand2.{Sending, numbered, header, countIn, segmentedIn, segmentOf, Sender, Sendable, keyIn, arrivalOf, Meanwhile, stop, mine, other, Returns, HasRoom, RoundTrip}
+use Rattle.demands.specs.Demand2.{Shipment, numbered, header, countIn, segmentedIn, segmentOf, Sender, Sendable, keyIn, arrivalOf, Meanwhile, stop, mine, other, Returns, CanTake, RoundTrip}
 use Rattle.demands.proofs.Index.{demand-2}
-use Rattle.course.specs.Laps.{Asked, Lap, lap, laps, standing, lapOf, OfLap, OfReceipt}
-use Rattle.course.specs.declared.Looped.{Looped}
-use Rattle.course.proofs.Laps.{one-lap}
-use Rattle.loopback.specs.Loopback.{sendingIn, fitChecks, loopChecks, Looping, looping, OfLoopback}
+use Rattle.loop_laps.specs.Laps.{Asked, Lap, lap, laps, standing, lapOf, OfLap, OfReceipt}
+use Rattle.loop_laps.specs.declared.Looped.{Looped}
+use Rattle.loop_laps.proofs.Laps.{one-lap}
+use Rattle.loopback.specs.Loopback.{shipmentIn, fitChecks, loopChecks, Looping, looping, OfLoopback}
 
 -- no check has the number 0
 some : (n : ℕ) → suc n ≡ 0 → ⊥
@@ -53,18 +53,18 @@ sharp-both (x ∷ xs) ys a b = (a .0, sharp-both xs ys (a .1) b)
 -- where sending segment 0 is not refused, no segment is, in an area that any parameter fits
 module _ (x : Asked) (area : List ℕ)
     (ok : accepted (sendingChecks (x .table) (numbered (x .request) 0) (x .origin) (x .destination) (x .whole) area) ≡ true) where
-  also : (k : ℕ) → k < countIn (sendingIn x) → (area′ : List ℕ) → length (segmentOf (sendingIn x) k) ≤ length area′
+  pub sendable-all : (k : ℕ) → k < countIn (shipmentIn x) → (area′ : List ℕ) → length (segmentOf (shipmentIn x) k) ≤ length area′
       → accepted (sendingChecks (x .table) (numbered (x .request) k) (x .origin) (x .destination) (x .whole) area′) ≡ true
   unfolding sendingChecks
-  also k under area′ fits =
+  sendable-all k under area′ fits =
       let all = simp and-eq-true-iff at ok in
       let room = all .1 .1 .1 .1 in
-      let below = ap not (lt-leb (countIn (sendingIn x)) k under) in
-      let inside = ap not (le-ltb (length area′) (length (segmentOf (sendingIn x) k)) fits) in
+      let below = ap not (lt-leb (countIn (shipmentIn x)) k under) in
+      let inside = ap not (le-ltb (length area′) (length (segmentOf (shipmentIn x) k)) fits) in
       simp and-eq-true-iff (all .0, (all .1 .0, (all .1 .1 .0, (all .1 .1 .1 .0, (room .0, (room .1 .0, (room .1 .1 .0, (room .1 .1 .1 .0, (below, (inside, refl))))))))))
 
-  segment-most : (k : ℕ) → k < countIn (sendingIn x) → length (segmentOf (sendingIn x) k) ≤ parameterMost
-  segment-most k under = within-room _ _ _ _ _ _ (also k under (segmentOf (sendingIn x) k) (omega arith)) .parameter
+  segment-most : (k : ℕ) → k < countIn (shipmentIn x) → length (segmentOf (shipmentIn x) k) ≤ parameterMost
+  segment-most k under = within-room _ _ _ _ _ _ (sendable-all k under (segmentOf (shipmentIn x) k) (omega arith)) .parameter
 
 -- the areas keep their lengths
 sending-length : (t : Table) (q : Request) (o d whole area : List ℕ) → length (sending t q o d whole area .area) ≡ length area
@@ -78,7 +78,7 @@ report-length t store report association s =
     segment-by (λ (r : Reception). length (r .report) ≡ length report) t store report association s (λ e. splice-length report 0 _) (λ e. refl)
 
 -- segments that arrive one after the other
-more : {x : Sending} {st st′ : State} {i j : ℕ} → Meanwhile ours x st i st′ j → (report : List ℕ) → recordLength ≤ length report
+more : {x : Shipment} {st st′ : State} {i j : ℕ} → Meanwhile ours x st i st′ j → (report : List ℕ) → recordLength ≤ length report
     → Meanwhile ours x st i (step st′ (arrivalOf x j report) .state) (suc j)
 more stop report room = mine report room stop
 more (mine again wide rest) report room = mine again wide (more rest report room)
@@ -86,8 +86,8 @@ more (other c range spares rest) report room = other c range spares (more rest r
 
 module _ (x : Asked) (store report area : List ℕ) where
   -- what goes out
-  abbrev out : Sending
-  out = sendingIn x
+  abbrev out : Shipment
+  out = shipmentIn x
 
   abbrev start : Lap
   start = standing (x .table) store report area
@@ -153,7 +153,7 @@ module _ (x : Asked) (store report area : List ℕ) where
     fits-at k under = omega (arith, segment-most x area (both .1) k under, area-at k, fit .wide)
 
     can : (k : ℕ) → k < countIn out → Sendable out (from k) k
-    can k under = record { kind = refl; good = also x area (both .1) k under (at k .area) (fits-at k under) }
+    can k under = record { kind = refl; good = sendable-all x area (both .1) k under (at k .area) (fits-at k under) }
 
     -- what is handed to the receiver is the segment
     sent-is : (k : ℕ) → k < countIn out → take (at (suc k) .length) (at (suc k) .area) ≡ segmentOf out k
@@ -191,7 +191,7 @@ module _ (x : Asked) (store report area : List ℕ) where
     two-least e =
         count-two (header out) (x .request) (length (x .whole)) e (later-carries _ _ _ _ _ _ (both .1) e) (first-leaves _ _ _ _ _ _ (both .1) e)
 
-    free-first : HasRoom out (state 0)
+    free-first : CanTake out (state 0)
     unfolding at
     free-first = rw (fit .free) (or-true (isAt (placeOf (keyIn out) (x .table .places))))
 
@@ -256,7 +256,7 @@ module _ (x : Asked) (store report area : List ℕ) where
   sent-count z = rw (sends-accepted z)
 
   pub count-some : sent .answer .refusal ≡ 0 → 1 ≤ countIn out
-  count-some z = let n = sendable (x .table) (numbered (x .request) 0) (x .origin) (x .destination) (x .whole) area (sends-accepted z) .number in omega arith
+  count-some z = let n = cuttable (x .table) (numbered (x .request) 0) (x .origin) (x .destination) (x .whole) area (sends-accepted z) .number in omega arith
 
   pub looping-done : first fits ≡ 0 → sent .answer .refusal ≡ 0 → looping x store report area ≡ record { number = 0; lap = laps (countIn out) 0 x start }
   looping-done e z =

@@ -14,13 +14,13 @@ use Rattle.rules.specs.Soundness.{sound}
 use Rattle.rules.specs.Delivery.{delivery}
 use Rattle.rules.specs.Sending.{sendingChecks}
 use Rattle.rules.specs.declared.Table.{Table}
-use Rattle.demands.specs.Demand2.{Sending, numbered, countIn}
-use Rattle.course.specs.Laps.{Asked, Lap, laps, standing}
-use Rattle.course.specs.declared.Looped.{Looped}
+use Rattle.demands.specs.Demand2.{Shipment, numbered, countIn}
+use Rattle.loop_laps.specs.Laps.{Asked, Lap, laps, standing}
+use Rattle.loop_laps.specs.declared.Looped.{Looped}
 
 -- what is sent, as demand 2 has it
-abbrev pub sendingIn : Asked → Sending
-sendingIn x =
+abbrev pub shipmentIn : Asked → Shipment
+shipmentIn x =
     record {
       request = x .request;
       origin = x .origin;
@@ -53,7 +53,7 @@ unfoldable pub looping : Asked → List ℕ → List ℕ → List ℕ → Loopin
 looping x store report area =
     judged (loopChecks x store report area)
     (λ n. record { number = n; lap = standing (x .table) store report area })
-    (record { number = 0; lap = laps (countIn (sendingIn x)) 0 x (standing (x .table) store report area) })
+    (record { number = 0; lap = laps (countIn (shipmentIn x)) 0 x (standing (x .table) store report area) })
 
 -- the answer by value
 abbrev pub loopedOf : Looping → Looped

@@ -1,6 +1,6 @@
 // The loopback: data is cut by the sender, each segment is handed to the receiver, and what comes back is the data.
-use course::Course;
-use course::Looped;
+use loop_laps::Course;
+use loop_laps::Looped;
 use rules::Decision;
 use rules::Found;
 use rules::Request;
@@ -8,7 +8,7 @@ use rules::Table;
 ghost use mathlib.Core.Path.{_≡_};
 ghost use Rattle.rules.specs.Places.{isAt, lowestFree};
 ghost use Rattle.rules.specs.Refusals.{first};
-ghost use Rattle.course.specs.Laps.{asked};
+ghost use Rattle.loop_laps.specs.Laps.{asked};
 ghost use Rattle.loopback.specs.Loopback.{fitChecks, OfLoopback};
 
 // Nothing is done, and why.
@@ -24,7 +24,7 @@ fn refused(t: Table, number: u8) -> Looped
 }
 
 // Whether a place is free.
-fn has_room(t: Table) -> bool
+fn has_vacant(t: Table) -> bool
     ensures { λ r. ⌜ r ≡ isAt (lowestFree (t .places)) ⌝ }
 {
     let places = t.places;
@@ -38,7 +38,7 @@ fn has_room(t: Table) -> bool
 fn unfit(t: Table, store: usize, report: usize, area: usize) -> u8
     ensures { λ r. ⌜ r ≡ first (fitChecks t store report area) ⌝ }
 {
-    if !soundness::is_sound(t) {
+    if !sound::is_sound(t) {
         return 1;
     }
     if store < 32768 {
@@ -50,7 +50,7 @@ fn unfit(t: Table, store: usize, report: usize, area: usize) -> u8
     if area < 255 {
         return 20;
     }
-    if !has_room(t) {
+    if !has_vacant(t) {
         return 10;
     }
     0
@@ -76,7 +76,7 @@ pub fn loopback(
     }
     let s = sender::sending(
         t,
-        course::for_segment(q, 0),
+        loop_laps::for_segment(q, 0),
         origin,
         destination,
         whole,
@@ -85,13 +85,13 @@ pub fn loopback(
     if s.refusal != 0 {
         return refused(t, s.refusal);
     }
-    let first = course::receive(t, association, s.length, area, store, report);
+    let first = loop_laps::receive(t, association, s.length, area, store, report);
     let c = Course {
         table: t,
         request: q,
         association,
     };
-    course::others(
+    loop_laps::others(
         c,
         s.count,
         first,

@@ -50,12 +50,12 @@ fn looped(data: &[u8]) {
         return;
     }
     let decision = r.decision;
-    let last = octets::stretch(&area, 0, r.length as usize);
+    let last = octets::part(&area, 0, r.length as usize);
     io::write_all(STDOUT_FILENO, receiver::delivery(decision, last, &store));
 }
 
 fn main() {
     let mut data = [0u8; 2049];
     let n = io::read_full(STDIN_FILENO, &mut data);
-    looped(octets::stretch(&data, 0, n));
+    looped(octets::part(&data, 0, n));
 }

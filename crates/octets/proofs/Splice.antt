@@ -78,19 +78,19 @@ splice-after n xs at (y ∷ ys) h =
     let g : at + suc (length ys) ≤ n = h in
     splice-after n (set xs at y) (suc at) ys (omega arith) ∙ drop-set-lt n xs at y (omega arith)
 
--- a stretch of a list, from either end
-pub stretch-turn : (a n : ℕ) (xs : List ℕ) → drop a (take (a + n) xs) ≡ take n (drop a xs)
-stretch-turn zero n xs = rw zero-add
-stretch-turn (suc a) n [] = rw suc-add (none n)
+-- a part of a list, from either end
+pub part-turn : (a n : ℕ) (xs : List ℕ) → drop a (take (a + n) xs) ≡ take n (drop a xs)
+part-turn zero n xs = rw zero-add
+part-turn (suc a) n [] = rw suc-add (none n)
   where
     none : (n : ℕ) → _≡_ {A = List ℕ} [] (take n [])
     none zero = refl
     none (suc n) = refl
-stretch-turn (suc a) n (x ∷ xs) = rw suc-add (stretch-turn a n xs)
+part-turn (suc a) n (x ∷ xs) = rw suc-add (part-turn a n xs)
 
--- a stretch that ends before the octets, or starts after them, is as it was
+-- a part that ends before the octets, or starts after them, is as it was
 pub splice-below : (a n : ℕ) (xs : List ℕ) (at : ℕ) (ys : List ℕ) → a + n ≤ at → take n (drop a (splice xs at ys)) ≡ take n (drop a xs)
-splice-below a n xs at ys h = sym (stretch-turn a n (splice xs at ys)) ∙ rw (splice-before (a + n) xs at ys h) (stretch-turn a n xs)
+splice-below a n xs at ys h = sym (part-turn a n (splice xs at ys)) ∙ rw (splice-before (a + n) xs at ys h) (part-turn a n xs)
 
 pub splice-above : (a n : ℕ) (xs : List ℕ) (at : ℕ) (ys : List ℕ) → at + length ys ≤ a → take n (drop a (splice xs at ys)) ≡ take n (drop a xs)
 splice-above a n xs at ys h = rw (splice-after a xs at ys h)

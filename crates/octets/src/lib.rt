@@ -36,7 +36,7 @@ pub fn put_at(dst: &mut [u8], at: usize, src: &[u8])
 }
 
 // The n octets of s from a place on, as far as s reaches: a part of it, not a copy.
-pub fn stretch(s: &[u8], from: usize, n: usize) -> &[u8]
+pub fn part(s: &[u8], from: usize, n: usize) -> &[u8]
     ensures { λ r. ⌜ now r ≡ take n (drop from (now (s .entry))) ⌝ }
 {
     if s.len() <= from {
@@ -69,16 +69,4 @@ pub fn octets2(x: u16) -> [u8; 2]
     ensures { λ r. ⌜ r ≡ bigEndian 2 x ⌝ }
 {
     [(x / 256 % 256) as u8, (x % 256) as u8]
-}
-
-// A number as four octets.
-pub fn octets4(x: u32) -> [u8; 4]
-    ensures { λ r. ⌜ r ≡ bigEndian 4 x ⌝ }
-{
-    [
-        (x / 256 / 256 / 256 % 256) as u8,
-        (x / 256 / 256 % 256) as u8,
-        (x / 256 % 256) as u8,
-        (x % 256) as u8,
-    ]
 }

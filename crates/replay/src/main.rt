@@ -1,8 +1,8 @@
 // The replay program: a trace on standard input, its lines on standard output. What is read and what is printed of it is trace's; this reads, writes and keeps count.
-use events::Replay;
 use libc::STDIN_FILENO;
 use libc::STDOUT_FILENO;
 use trace::Progress;
+use trace_events::Replay;
 ghost use mathlib.Core.Path.{_≡_};
 ghost use Prim.Native.Nat.{_-_, _≤_};
 ghost use lib.ListN.{length, take, drop};
@@ -111,6 +111,7 @@ fn main() {
     let mut out = [0u8; 65536];
     let mut replay = trace::beginning();
     let mut have = 0;
+    // every loop has to have a number that falls: 2^64 blocks are more than any input has
     let mut turns = u64::MAX;
     while turns > 0 {
         let next = step(replay, &mut store, &mut report, &mut input, have, &mut out);

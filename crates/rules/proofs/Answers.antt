@@ -5,20 +5,13 @@ use mathlib.Core.Bool.{true, false}
 use mathlib.Core.List.{List}
 use Rattle.rules.specs.Refusals.{accepted, first}
 use Rattle.rules.specs.Registry.{entriesOf}
-use Rattle.rules.specs.Opening.{emptyTable, unopened, openingChecks, opening}
-use Rattle.rules.specs.Receiving.{Reception, receivedAt, segmentChecks, segment}
+use Rattle.rules.specs.Opening.{emptyTable, unopenedBy, openingChecks, opening}
+use Rattle.rules.specs.Receiving.{Reception, receivedAt, segmentChecks, unreceived, segment}
 use Rattle.rules.specs.Sweep.{Sweeping, unswept, sweep, isDue, isOf, clockChecks, clock, releaseChecks, release}
 use Rattle.rules.specs.declared.Table.{Table}
 use Rattle.rules.specs.declared.Opened.{Opened}
 use Rattle.rules.specs.declared.Decision.the-variants.{Refused}
 use Rattle.rules.proofs.Refusals.{judged-by}
-
--- the refusals of an opening and of a segment
-abbrev pub unopenedBy : ℕ → Opened
-unopenedBy n = record { table = unopened; refusal = n }
-
-abbrev pub unreceived : Table → List ℕ → List ℕ → ℕ → Reception
-unreceived t store report n = record { answer = record { table = t; decision = Refused; refusal = n; records = 0 }; store = store; report = report }
 
 pub opened-by : (P : Opened → Type 0) (registry : List ℕ) (timer time : ℕ)
     → (accepted (openingChecks registry timer) ≡ true → P (record { table = emptyTable (entriesOf registry) timer time; refusal = 0 }))

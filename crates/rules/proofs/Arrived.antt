@@ -27,11 +27,11 @@ pub record Arrived (t : Table) (store report : List ℕ) (association : ℕ) (s 
   pub stores : storeLeast ≤ length store
   pub reports : recordLength ≤ length report
   pub reading : accepted (readingChecks (t .registry) s) ≡ true
-  pub room : isStart (lineFor t association s) ≡ true → isAt (lowestFree (t .places)) ≡ true
+  pub vacant : isStart (lineFor t association s) ≡ true → isAt (lowestFree (t .places)) ≡ true
 
-room-left : (a b : Bool) → not (a && not b) ≡ true → a ≡ true → b ≡ true
-room-left true b e h = not-false b (not-true _ e)
-room-left false b e h = cc
+vacant-left : (a b : Bool) → not (a && not b) ≡ true → a ≡ true → b ≡ true
+vacant-left true b e h = not-false b (not-true _ e)
+vacant-left false b e h = cc
 
 module _ (t : Table) (store report : List ℕ) (association : ℕ) (s : List ℕ) (e : accepted (segmentChecks t store report association s) ≡ true) where
   abbrev three : List Check
@@ -51,5 +51,5 @@ module _ (t : Table) (store report : List ℕ) (association : ℕ) (s : List ℕ
         stores = ltb-false _ _ (not-true _ (all .1 .0));
         reports = ltb-false _ _ (not-true _ (all .1 .1 .0));
         reading = inner .1;
-        room = room-left _ _ ((simp and-eq-true-iff at (outer .1)) .0);
+        vacant = vacant-left _ _ ((simp and-eq-true-iff at (outer .1)) .0);
       }

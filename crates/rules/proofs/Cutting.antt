@@ -14,9 +14,9 @@ use Rattle.octets.proofs.Number.{empty}
 use Rattle.rules.specs.General.{if_then_else_, every}
 use Rattle.rules.specs.Refusals.{accepted}
 use Rattle.rules.specs.Registry.{kindOf, isUsable}
-use Rattle.rules.specs.Layout.{isAlone, sequenceOctets, contextOctets, addressesOctets, parameterOctets}
+use Rattle.rules.specs.Layout.{isUnsegmented, sequenceOctets, contextOctets, addressesOctets, parameterOctets}
 use Rattle.rules.specs.Soundness.{sound}
-use Rattle.rules.specs.Sending.{headerLength, isSegmented, firstCarries, laterCarries, countOf, stretchOf, headingFor, carried, segmentOctets, sendingChecks}
+use Rattle.rules.specs.Sending.{headerLength, isSegmented, firstCarries, laterCarries, countOf, pieceOf, headingFor, carried, segmentOctets, sendingChecks}
 use Rattle.rules.specs.declared.Entry.{Entry}
 use Rattle.rules.specs.declared.Table.{Table}
 use Rattle.rules.specs.declared.Heading.{Heading}
@@ -30,7 +30,7 @@ abbrev pub headerFor : Table → Request → List ℕ → List ℕ → ℕ
 headerFor t q o d = headerLength (kindFor t q) (q .context .0) o d
 
 -- what the checks of a sending leave
-pub record Sendable (t : Table) (q : Request) (o d whole area : List ℕ) : Type 0 where
+pub record Cuttable (t : Table) (q : Request) (o d whole area : List ℕ) : Type 0 where
   pub table : sound t ≡ true
   pub registered : 1 ≤ kindFor t q
   pub known : kindFor t q ≤ 2
@@ -100,9 +100,9 @@ rooms h room1 room count segmented e =
     )
 
 module _ (t : Table) (q : Request) (o d whole area : List ℕ) (ok : accepted (sendingChecks t q o d whole area) ≡ true) where
-  pub sendable : Sendable t q o d whole area
+  pub cuttable : Cuttable t q o d whole area
   unfolding sendingChecks sound
-  sendable =
+  cuttable =
       let all = simp and-eq-true-iff at ok in
       let table = not-false (sound t) (not-true _ (all .0)) in
       let kind = eqb-false (kindFor t q) 0 (not-true _ (all .1 .0)) in
@@ -152,38 +152,38 @@ module _ (h : ℕ) (q : Request) (n : ℕ) (segmented : isSegmented h q n ≡ tr
       let one = le-div-iff-mul-le {k = laterCarries h q} {x = 1} {y = n - firstCarries h q + (laterCarries h q - 1)} some .1 (omega arith) in
       omega (arith, parts)
 
--- the first count stretches joined
-abbrev pub stretches : ℕ → ℕ → List ℕ → ℕ → List ℕ
-stretches a b whole zero = []
-stretches a b whole (suc k) = stretches a b whole k ++ stretchOf a b whole k
+-- the first count pieces joined
+abbrev pub pieces : ℕ → ℕ → List ℕ → ℕ → List ℕ
+pieces a b whole zero = []
+pieces a b whole (suc k) = pieces a b whole k ++ pieceOf a b whole k
 
-pub stretches-step : (a b : ℕ) (whole : List ℕ) (k : ℕ) → stretches a b whole (k + 1) ≡ take (a + k * b) whole
-stretches-step a b whole k = rw add-one (go k)
+pub pieces-step : (a b : ℕ) (whole : List ℕ) (k : ℕ) → pieces a b whole (k + 1) ≡ take (a + k * b) whole
+pieces-step a b whole k = rw add-one (go k)
   where
-    go : (k : ℕ) → stretches a b whole (suc k) ≡ take (a + k * b) whole
+    go : (k : ℕ) → pieces a b whole (suc k) ≡ take (a + k * b) whole
     go zero = let e : a + 0 * b ≡ a = omega arith in rw e
     go (suc k) =
         let e : a + suc k * b ≡ a + k * b + b = omega (arith, suc-mul k b) in
         rw (e, take-add (a + k * b) b whole, go k)
 
-pub stretches-join : (a b : ℕ) (whole : List ℕ) (count : ℕ) → 1 ≤ count → length whole ≤ a + (count - 1) * b → stretches a b whole count ≡ whole
-stretches-join a b whole count one h =
+pub pieces-join : (a b : ℕ) (whole : List ℕ) (count : ℕ) → 1 ≤ count → length whole ≤ a + (count - 1) * b → pieces a b whole count ≡ whole
+pieces-join a b whole count one h =
     let e : count ≡ count - 1 + 1 = omega arith in
-    rw e (stretches-step a b whole (count - 1) ∙ take-all (a + (count - 1) * b) whole h)
+    rw e (pieces-step a b whole (count - 1) ∙ take-all (a + (count - 1) * b) whole h)
 
-stretch-first : (a b : ℕ) (whole : List ℕ) (k : ℕ) → k ≡ 0 → length (stretchOf a b whole k) ≤ a
-stretch-first a b whole k e = rw (e, length-take) (omega arith)
+piece-first : (a b : ℕ) (whole : List ℕ) (k : ℕ) → k ≡ 0 → length (pieceOf a b whole k) ≤ a
+piece-first a b whole k e = rw (e, length-take) (omega arith)
 
-stretch-later : (a b : ℕ) (whole : List ℕ) (k : ℕ) → (k ≡ 0 → ⊥) → length (stretchOf a b whole k) ≤ b
-stretch-later a b whole zero e = absurd (e refl)
-stretch-later a b whole (suc k) e = rw length-take (omega arith)
+piece-later : (a b : ℕ) (whole : List ℕ) (k : ℕ) → (k ≡ 0 → ⊥) → length (pieceOf a b whole k) ≤ b
+piece-later a b whole zero e = absurd (e refl)
+piece-later a b whole (suc k) e = rw length-take (omega arith)
 
 pub parameter-length : (g : Heading) (o d information : List ℕ) → length (parameterOctets g o d information)
     ≡ length (contextOctets (g .context .0)) + 1 + length (sequenceOctets g) + length (addressesOctets (g .kind) o d) + length information
 unfolding parameterOctets
 parameter-length g o d information = simp length-append
 
-sequence-length : (g : Heading) (b : Bool) → isAlone (g .new) (g .remaining .0) ≡ b → length (sequenceOctets g) ≡ (if b then 1 else 2)
+sequence-length : (g : Heading) (b : Bool) → isUnsegmented (g .new) (g .remaining .0) ≡ b → length (sequenceOctets g) ≡ (if b then 1 else 2)
 sequence-length g true e = simp e
 sequence-length g false e = simp e
 
@@ -194,8 +194,8 @@ pub record WithinRoom (q : Request) (m : ℕ) (s : List ℕ) : Type 0 where
   pub count : m ≤ 10
 
 module _ (t : Table) (q : Request) (o d whole area : List ℕ) (ok : accepted (sendingChecks t q o d whole area) ≡ true) where
-  abbrev all : Sendable t q o d whole area
-  all = sendable t q o d whole area ok
+  abbrev all : Cuttable t q o d whole area
+  all = cuttable t q o d whole area ok
 
   abbrev h : ℕ
   h = headerFor t q o d
@@ -216,10 +216,10 @@ module _ (t : Table) (q : Request) (o d whole area : List ℕ) (ok : accepted (s
         omega arith
 
     -- all segments of a sending together carry the data
-    pub cut-joins : stretches (firstCarries h q) (laterCarries h q) whole (countOf h q (length whole)) ≡ whole
+    pub cut-joins : pieces (firstCarries h q) (laterCarries h q) whole (countOf h q (length whole)) ≡ whole
     cut-joins =
         let one = all .number in
-        stretches-join (firstCarries h q) (laterCarries h q) whole (countOf h q (length whole)) (omega arith)
+        pieces-join (firstCarries h q) (laterCarries h q) whole (countOf h q (length whole)) (omega arith)
         (count-holds h q (length whole) segmented later-carries first-leaves)
 
     counts-two : 2 ≤ countOf h q (length whole)
@@ -231,14 +231,14 @@ module _ (t : Table) (q : Request) (o d whole area : List ℕ) (ok : accepted (s
       (one, omega (arith, all .number))
 
   -- alone exactly where it is not segmented
-  pub alone-is : isAlone (eqb (q .number) 0) (countOf h q (length whole) - 1 - q .number) ≡ not (isSegmented h q (length whole))
+  pub alone-is : isUnsegmented (eqb (q .number) 0) (countOf h q (length whole) - 1 - q .number) ≡ not (isSegmented h q (length whole))
   alone-is = go (isSegmented h q (length whole)) refl
     where
       later : (b : Bool) → eqb (q .number) 0 ≡ b → 2 ≤ countOf h q (length whole) → (b && eqb (countOf h q (length whole) - 1 - q .number) 0) ≡ false
       later true e two = let k = eqb-true (q .number) 0 e in ne-eqb (countOf h q (length whole) - 1 - q .number) 0 (λ z. omega arith)
       later false e two = refl
 
-      go : (b : Bool) → isSegmented h q (length whole) ≡ b → isAlone (eqb (q .number) 0) (countOf h q (length whole) - 1 - q .number) ≡ not b
+      go : (b : Bool) → isSegmented h q (length whole) ≡ b → isUnsegmented (eqb (q .number) 0) (countOf h q (length whole) - 1 - q .number) ≡ not b
       go true e = later (eqb (q .number) 0) refl (counts-two e)
       go false e =
           let one = unsegmented-one e in
@@ -262,16 +262,16 @@ module _ (t : Table) (q : Request) (o d whole area : List ℕ) (ok : accepted (s
       go true e true z =
           let k = eqb-true (q .number) 0 z in
           let rooms = all .segmented e in
-          let most = stretch-first (firstCarries h q) (laterCarries h q) whole (q .number) k in
-          let c : length (carried h q whole) ≡ length (stretchOf (firstCarries h q) (laterCarries h q) whole (q .number)) = simp e in
+          let most = piece-first (firstCarries h q) (laterCarries h q) whole (q .number) k in
+          let c : length (carried h q whole) ≡ length (pieceOf (firstCarries h q) (laterCarries h q) whole (q .number)) = simp e in
           let l = segment-length true e in
           let r = all .room1 in
           record { first = λ y. omega arith; later = λ y. absurd (y k); parameter = omega arith; count = rooms .2 }
       go true e false z =
           let k = eqb-false (q .number) 0 z in
           let rooms = all .segmented e in
-          let most = stretch-later (firstCarries h q) (laterCarries h q) whole (q .number) k in
-          let c : length (carried h q whole) ≡ length (stretchOf (firstCarries h q) (laterCarries h q) whole (q .number)) = simp e in
+          let most = piece-later (firstCarries h q) (laterCarries h q) whole (q .number) k in
+          let c : length (carried h q whole) ≡ length (pieceOf (firstCarries h q) (laterCarries h q) whole (q .number)) = simp e in
           let l = segment-length true e in
           let r = all .room in
           record { first = λ y. absurd (k y); later = λ y. omega arith; parameter = omega arith; count = rooms .2 }

@@ -1,7 +1,7 @@
 -- M1 to M13 hold, by computing.
 use mathlib.Core.Path.{refl}
 use Rattle.octets.specs.Splice.{splice}
-use Rattle.rules.specs.Numbers.{age}
+use Rattle.rules.specs.Numbers.{elapsed}
 use Rattle.rules.specs.Layout.{fieldsOf, readingChecks, parameterOctets}
 use Rattle.rules.specs.Records.{recordOctets}
 use Rattle.rules.specs.Places.{sameKey}
@@ -13,5 +13,5 @@ use Rattle.rules.specs.Sending.{segmentOctets, sendingChecks, sending}
 use Rattle.rules.specs.Examples.{Hold}
 
 pub hold : Hold
-unfolding splice age fieldsOf readingChecks recordOctets sameKey openSound freeSound sound lineOf effectOf segmentChecks segment delivery opening parameterOctets segmentOctets sendingChecks sending
+unfolding splice elapsed fieldsOf readingChecks recordOctets sameKey openSound freeSound sound lineOf effectOf segmentChecks segment delivery opening parameterOctets segmentOctets sendingChecks sending
 hold = refl

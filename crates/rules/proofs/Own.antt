@@ -30,7 +30,7 @@ use Rattle.rules.proofs.Lines.{line-cases}
 
 -- the place that is a segment's own: its key's where the key is open, else the lowest free one
 abbrev pub ownOf : Found → Found → Found
-ownOf place room = if isAt place then place else room
+ownOf place vacant = if isAt place then place else vacant
 
 abbrev pub ownPlace : Table → ℕ → List ℕ → Found
 ownPlace t association s = ownOf (placeOf (keyOf association s (fieldsOf (t .registry) s)) (t .places)) (lowestFree (t .places))
@@ -116,12 +116,12 @@ abbrev Kept : List Place → List ℕ → List ℕ → Found → Line → Effect
 Kept ps store octets own line e = KeptPlaces own ps (e .places) × KeptOctets (saves line) (fromOf line ps own) (length octets) store (e .store)
 
 -- every line, at a key's place or where it has none
-module _ (t : Table) (store : List ℕ) (key : Key) (f : Fields) (octets : List ℕ) (room : Found) where
+module _ (t : Table) (store : List ℕ) (key : Key) (f : Fields) (octets : List ℕ) (vacant : Found) where
   abbrev ps : List Place
   ps = t .places
 
   abbrev For : Found → Line → Type 0
-  For place line = Kept ps store octets (ownOf place room) line (effectOf line t store key f octets place (placeAt ps place) room)
+  For place line = Kept ps store octets (ownOf place vacant) line (effectOf line t store key f octets place (placeAt ps place) vacant)
 
   alone : (place : Found) → For place Unsegmented
   unfolding effectOf
@@ -153,7 +153,7 @@ module _ (t : Table) (store : List ℕ) (key : Key) (f : Fields) (octets : List 
         unsegmented = λ n r. alone Nothing;
         beyond = λ r. broken 4 Nothing;
         restart = λ n o r m. never (sym o);
-        start = λ n o r m. (put-places room ps _, saved-octets _ octets store);
+        start = λ n o r m. (put-places vacant ps _, saved-octets _ octets store);
         stray = λ n o m. broken 1 Nothing;
         gap = λ n o m e. never (sym o);
         over = λ n o m e l. never (sym o);
@@ -178,9 +178,9 @@ fits isOpen before saved g n p short same =
       next = λ a o r m q l e. let z = same o in omega arith;
     }
 
-own-open : (ps : List Place) (place room : Found) → isAt place ≡ true → placeAt ps (ownOf place room) .octets ≡ placeAt ps place .octets
-own-open ps (At i) room e = refl
-own-open ps Nothing room e = never (sym e)
+own-open : (ps : List Place) (place vacant : Found) → isAt place ≡ true → placeAt ps (ownOf place vacant) .octets ≡ placeAt ps place .octets
+own-open ps (At i) vacant e = refl
+own-open ps Nothing vacant e = never (sym e)
 
 module _ (t : Table) (store report : List ℕ) (association : ℕ) (s : List ℕ) where
   abbrev f : Fields

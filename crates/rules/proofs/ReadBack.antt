@@ -13,7 +13,7 @@ use Rattle.rules.specs.General.{if_then_else_}
 use Rattle.rules.specs.Numbers.{parameterMost}
 use Rattle.rules.specs.Refusals.{Check, _when_, accepted}
 use Rattle.rules.specs.Registry.{kindOf}
-use Rattle.rules.specs.Layout.{octet, contextOf, at2, at3, isNew, remainingOf, isAlone, referenceOf, pastSequence, originAt, pastAddress, hasAddresses, informationAt, fieldsOf, lastChecks, contextChecks, sequenceChecks, addressChecks, addressesChecks, readingChecks, contextOctets, sequenceOctets, addressesOctets, parameterOctets}
+use Rattle.rules.specs.Layout.{octet, contextOf, at2, at3, isNew, remainingOf, isUnsegmented, referenceOf, pastSequence, originAt, pastAddress, hasAddresses, informationAt, fieldsOf, lastChecks, contextChecks, sequenceChecks, addressChecks, addressesChecks, readingChecks, contextOctets, sequenceOctets, addressesOctets, parameterOctets}
 use Rattle.rules.specs.Sending.{isSegmented, headingFor, carried, segmentOctets, sendingChecks}
 use Rattle.rules.specs.declared.Entry.{Entry}
 use Rattle.rules.specs.declared.Table.{Table}
@@ -21,7 +21,7 @@ use Rattle.rules.specs.declared.Heading.{Heading}
 use Rattle.rules.specs.declared.Request.{Request}
 use Rattle.rules.proofs.Refusals.{accepted-append}
 use Rattle.octets.proofs.Number.{empty}
-use Rattle.rules.proofs.Cutting.{kindFor, headerFor, sendable, alone-is, within-room}
+use Rattle.rules.proofs.Cutting.{kindFor, headerFor, cuttable, alone-is, within-room}
 
 -- the octet at a position, by what is left there
 module _ (s : List ℕ) (at x : ℕ) (rest : List ℕ) (e : drop at s ≡ x ∷ rest) where
@@ -101,11 +101,11 @@ third-is false m h =
     record { low = omega arith; isNew-is = lt-leb 64 (m % 128) e; remaining-is = omega arith }
 
 sequence-back : (g : Heading) (s : List ℕ) (at : ℕ) (rest : List ℕ) → g .remaining .0 ≤ 63
-    → (isAlone (g .new) (g .remaining .0) ≡ true → g .reference .0 ≡ 255) → (isAlone (g .new) (g .remaining .0) ≡ false → g .reference .0 ≤ 127)
+    → (isUnsegmented (g .new) (g .remaining .0) ≡ true → g .reference .0 ≡ 255) → (isUnsegmented (g .new) (g .remaining .0) ≡ false → g .reference .0 ≤ 127)
     → drop at s ≡ sequenceOctets g ++ rest → SequenceBack g s at rest
-sequence-back g s at rest most alone apart = go (isAlone (g .new) (g .remaining .0)) refl
+sequence-back g s at rest most alone apart = go (isUnsegmented (g .new) (g .remaining .0)) refl
   where
-    go : (b : Bool) → isAlone (g .new) (g .remaining .0) ≡ b
+    go : (b : Bool) → isUnsegmented (g .new) (g .remaining .0) ≡ b
         → drop at s ≡ (if b then 192 ∷ [] else (if g .new then 64 + g .remaining .0 else g .remaining .0) ∷ (128 + g .reference .0) ∷ []) ++ rest
         → SequenceBack g s at rest
     go true t e =
@@ -204,8 +204,8 @@ pub record Writable (r : List Entry) (g : Heading) (o d information : List ℕ) 
   pub context : g .context .0 ≤ 16383
   pub instruction : g .instruction ≤ 3
   pub remaining : g .remaining .0 ≤ 63
-  pub alone : isAlone (g .new) (g .remaining .0) ≡ true → g .reference .0 ≡ 255
-  pub apart : isAlone (g .new) (g .remaining .0) ≡ false → g .reference .0 ≤ 127
+  pub alone : isUnsegmented (g .new) (g .remaining .0) ≡ true → g .reference .0 ≡ 255
+  pub apart : isUnsegmented (g .new) (g .remaining .0) ≡ false → g .reference .0 ≤ 127
   pub origin : length o ≤ 20
   pub destination : length d ≤ 20
   pub unaddressed : g .kind ≡ 1 → length o + length d ≡ 0
@@ -289,7 +289,7 @@ module _ (t : Table) (q : Request) (o d whole area : List ℕ) (ok : accepted (s
   writable : Writable r g o d (carried h q whole)
   unfolding segmentOctets
   writable =
-      let all = sendable t q o d whole area ok in
+      let all = cuttable t q o d whole area ok in
       let room = within-room t q o d whole area ok in
       let alone = alone-is t q o d whole area ok in
       record {

@@ -11,7 +11,7 @@ use Rattle.rules.specs.General.{if_then_else_}
 use Rattle.rules.specs.Numbers.{parameterMost, addressMost, referenceMost}
 use Rattle.rules.specs.Refusals.{Check, _when_, accepted}
 use Rattle.rules.specs.Registry.{kindOf}
-use Rattle.rules.specs.Layout.{octet, has1a, has3a, isMissing, isAlone, isNew, remainingOf, referenceOf, contextOf, at2, at3, originAt, hasAddresses, fieldsOf, lastChecks, contextChecks, sequenceChecks, addressesChecks, readingChecks}
+use Rattle.rules.specs.Layout.{octet, has1a, has3a, isMissing, isUnsegmented, isNew, remainingOf, referenceOf, contextOf, at2, at3, originAt, hasAddresses, fieldsOf, lastChecks, contextChecks, sequenceChecks, addressesChecks, readingChecks}
 use Rattle.rules.specs.declared.Entry.{Entry}
 use Rattle.rules.proofs.Refusals.{accepted-both, accepted-one}
 
@@ -54,11 +54,11 @@ module _ (registry : List Entry) (s : List ℕ) (e : accepted (readingChecks reg
       eqb-false (kindOf registry (contextOf s)) 0 (accepted-one (8 when eqb (kindOf registry (contextOf s)) 0) last)
 
   -- octet 3a is there where the parameter is segmented
-  pub reference-short : isAlone (isNew (octet s (at3 s))) (remainingOf (octet s (at3 s))) ≡ false → referenceOf s (at3 s) ≤ referenceMost
-  reference-short h = go (has3a (octet s (at3 s))) (isAlone (isNew (octet s (at3 s))) (remainingOf (octet s (at3 s)))) h (accepted-one seven last)
+  pub reference-short : isUnsegmented (isNew (octet s (at3 s))) (remainingOf (octet s (at3 s))) ≡ false → referenceOf s (at3 s) ≤ referenceMost
+  reference-short h = go (has3a (octet s (at3 s))) (isUnsegmented (isNew (octet s (at3 s))) (remainingOf (octet s (at3 s)))) h (accepted-one seven last)
     where
       seven : Check
-      seven = 7 when Bool·beq (has3a (octet s (at3 s))) (isAlone (isNew (octet s (at3 s))) (remainingOf (octet s (at3 s))))
+      seven = 7 when Bool·beq (has3a (octet s (at3 s))) (isUnsegmented (isNew (octet s (at3 s))) (remainingOf (octet s (at3 s))))
 
       last : accepted (seven ∷ []) ≡ true
       last = accepted-both ((5 when isMissing s (at3 s) ∷ []) ++ (if has3a (octet s (at3 s)) then lastChecks s (at3 s + 1) else [])) (seven ∷ []) (sequence .1) .1

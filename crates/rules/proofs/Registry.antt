@@ -14,9 +14,8 @@ use Rattle.rules.specs.General.{if_then_else_, every, everyTwo}
 use Rattle.rules.specs.Numbers.{entriesMost, timerInRange}
 use Rattle.rules.specs.Refusals.{_when_, judged}
 use Rattle.rules.specs.Registry.{entriesOf, isCut, isUnused, isEntry, entriesApart, listsRegistry}
-use Rattle.rules.specs.Opening.{noEntry, emptyTable, opening}
+use Rattle.rules.specs.Opening.{noEntry, emptyTable, opening, unopenedBy}
 use Rattle.rules.specs.declared.Entry.{Entry}
-use Rattle.rules.proofs.Answers.{unopenedBy}
 use Rattle.rules.proofs.Lists.{left}
 
 -- no record is cut where the length is a multiple of 3

@@ -6,7 +6,7 @@ use mathlib.Core.List.{List, [], _∷_, _++_}
 use borrow.Author.Tests.{leb-true, ltb-true, eqb-false, ne-eqb, le-leb, lt-ltb, not-true}
 use lib.ListN.{take, drop, replicate}
 use Rattle.rules.specs.General.{every, everyTwo}
-use Rattle.rules.specs.Numbers.{timerInRange, referenceMost, instructionMost, segmentsMost, dataMost, age}
+use Rattle.rules.specs.Numbers.{timerInRange, referenceMost, instructionMost, segmentsMost, dataMost, elapsed}
 use Rattle.rules.specs.Registry.{kindOf, registrySound}
 use Rattle.rules.specs.Places.{freePlace}
 use Rattle.rules.specs.Soundness.{isZero, addressSound, openSound, freeSound, placeSound, placesApart, sound}
@@ -43,7 +43,7 @@ pub record OpenPlace (registry : List Entry) (timer clock : ℕ) (p : Place) : T
   pub count : p .segments + p .remaining .0 ≤ segmentsMost
   pub octets : p .octets ≤ dataMost
   pub address : addressSound (kindOf registry (p .key .context .0)) p ≡ true
-  pub young : age clock (p .start) < timer
+  pub young : elapsed clock (p .start) < timer
 
 module _ (registry : List Entry) (timer clock : ℕ) (p : Place) where
   pub open-parts : openSound registry timer clock p ≡ true → OpenPlace registry timer clock p

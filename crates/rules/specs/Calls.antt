@@ -79,43 +79,59 @@ lentOf (Ticks x) = lending (x .report) []
 lentOf (Releases x) = lending (x .report) []
 lentOf (Sends x) = lending [] (x .area)
 
+-- what a call decided: of a segment, its decision; no other call has one
+pub data Decided : Type 0 where
+  Undecided : Decided
+  As : Decision → Decided
+
 -- all that a call answers, with the areas after it; what it has no part in is 0
 pub record Answer : Type 0 where
   pub refusal : ℕ
   pub records : ℕ
-  pub decision : Decision
+  pub decided : Decided
   pub count : ℕ
   pub length : ℕ
   pub lent : Lent
 
-abbrev pub answering : ℕ → ℕ → Decision → Lent → Answer
-answering refusal records decision lent = record { refusal = refusal; records = records; decision = decision; count = 0; length = 0; lent = lent }
+abbrev pub answering : ℕ → ℕ → Decided → Lent → Answer
+answering refusal records decided lent = record { refusal = refusal; records = records; decided = decided; count = 0; length = 0; lent = lent }
+
+-- a refused call's: its number, and of a segment that it is refused
+abbrev pub refusedAs : Call → Decided
+refusedAs (Opens x) = Undecided
+refusedAs (Arrives x) = As Refused
+refusedAs (Ticks x) = Undecided
+refusedAs (Releases x) = Undecided
+refusedAs (Sends x) = Undecided
+
+abbrev pub refusing : ℕ → Call → Answer
+refusing n c = answering n 0 (refusedAs c) (lentOf c)
 
 pub record Outcome : Type 0 where
   pub answer : Answer
   pub state : State
 
 abbrev pub afterOpening : List ℕ → Opened → Outcome
-afterOpening store o = record { answer = answering (o .refusal) 0 Refused (lending [] []); state = record { table = o .table; store = store } }
+afterOpening store o = record { answer = answering (o .refusal) 0 Undecided (lending [] []); state = record { table = o .table; store = store } }
 
 abbrev pub afterSegment : Reception → Outcome
 afterSegment o =
     record {
-      answer = answering (o .answer .refusal) (o .answer .records) (o .answer .decision) (lending (o .report) []);
+      answer = answering (o .answer .refusal) (o .answer .records) (As (o .answer .decision)) (lending (o .report) []);
       state = record { table = o .answer .table; store = o .store };
     }
 
 abbrev pub afterSweep : List ℕ → Sweeping → Outcome
 afterSweep store o =
     record {
-      answer = answering (o .answer .refusal) (o .answer .records) Refused (lending (o .report) []);
+      answer = answering (o .answer .refusal) (o .answer .records) Undecided (lending (o .report) []);
       state = record { table = o .answer .table; store = store };
     }
 
 abbrev pub afterSending : State → Sending → Outcome
 afterSending st o =
     record {
-      answer = record { refusal = o .answer .refusal; records = 0; decision = Refused; count = o .answer .count; length = o .answer .length; lent = lending [] (o .area) };
+      answer = record { refusal = o .answer .refusal; records = 0; decided = Undecided; count = o .answer .count; length = o .answer .length; lent = lending [] (o .area) };
       state = st;
     }
 

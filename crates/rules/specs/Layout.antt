@@ -44,8 +44,8 @@ abbrev pub remainingOf : ℕ → ℕ
 remainingOf x = x % 64
 
 -- the indicator is 1 and remaining is 0
-abbrev pub isAlone : Bool → ℕ → Bool
-isAlone new remaining = new && eqb remaining 0
+abbrev pub isUnsegmented : Bool → ℕ → Bool
+isUnsegmented new remaining = new && eqb remaining 0
 
 -- octet 3a, only if octet 3, at a position, has extension 0: local reference; 255 means an unsegmented parameter
 abbrev pub has3a : ℕ → Bool
@@ -121,7 +121,7 @@ abbrev pub sequenceChecks : List ℕ → ℕ → List Check
 sequenceChecks s at =
     (5 when isMissing s at ∷ [])
     ++ (if has3a (octet s at) then lastChecks s (at + 1) else [])
-    ++ (7 when Bool·beq (has3a (octet s at)) (isAlone (isNew (octet s at)) (remainingOf (octet s at))) ∷ [])
+    ++ (7 when Bool·beq (has3a (octet s at)) (isUnsegmented (isNew (octet s at)) (remainingOf (octet s at))) ∷ [])
 
 -- 9 stands at the length octet; an address is 0 to 20 octets
 abbrev pub addressChecks : List ℕ → ℕ → List Check
@@ -149,7 +149,7 @@ contextOctets x = if ltb x 128 then (128 + x) ∷ [] else x % 128 ∷ (128 + x /
 -- octets 3 and 3a
 abbrev pub sequenceOctets : Heading → List ℕ
 sequenceOctets g =
-    if isAlone (g .new) (g .remaining .0)
+    if isUnsegmented (g .new) (g .remaining .0)
     then 192 ∷ []
     else (if g .new then 64 + g .remaining .0 else g .remaining .0) ∷ (128 + g .reference .0) ∷ []
 

@@ -1,4 +1,13 @@
--- Document 01 as definitions, in the paper's order: a reader with the paper in hand starts here.
+-- Document 01 as definitions, in the order in which they depend on each other. A reader with the paper in hand finds its sections here:
+--   What the gateway does with a parameter      (what is built: Calls)
+--   Layout of a segment                         Layout
+--   Numbers                                     Numbers, Registry
+--   Records and other house octets              Records, Registry; of a trace: Trace
+--   Receiving                                   Places (the key), Receiving (the lines), Delivery, Sweep (clock and release), Opening
+--   Sending                                     Sending
+--   Refusal numbers                             Refusals (how a number is found), each call's own list beside the call; Soundness (what sound means)
+--   What the contracts have to say              Promises
+--   Examples on each side                       Examples; the replay program: Trace
 pub mod General
 pub mod Numbers
 pub mod Refusals

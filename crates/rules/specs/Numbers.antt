@@ -42,8 +42,8 @@ abbrev pub timerInRange : ℕ → Bool
 timerInRange timer = leb 1 timer && leb timer 1000000
 
 -- the clock is 32 bits and runs round: the new time less the old, modulo 2^32
-unfoldable pub age : ℕ → ℕ → ℕ
-age new old = (new + 2 ^ 32 - old) % 2 ^ 32
+unfoldable pub elapsed : ℕ → ℕ → ℕ
+elapsed new old = (new + 2 ^ 32 - old) % 2 ^ 32
 
 -- an address is 0 to 20 octets
 abbrev pub addressMost : ℕ

@@ -38,8 +38,11 @@ openingChecks registry timer =
     12 when not (timerInRange timer) ∷
     11 when not (listsRegistry registry) ∷ []
 
+abbrev pub unopenedBy : ℕ → Opened
+unopenedBy n = record { table = unopened; refusal = n }
+
 unfoldable pub opening : List ℕ → ℕ → ℕ → Opened
 opening registry timer clock =
     judged (openingChecks registry timer)
-    (λ n. record { table = unopened; refusal = n })
+    unopenedBy
     (record { table = emptyTable (entriesOf registry) timer clock; refusal = 0 })

@@ -80,6 +80,10 @@ abbrev pub numberOf : Found → ℕ
 numberOf (At i) = i
 numberOf Nothing = placeCount
 
+-- the place of a number
+abbrev pub foundAt : ℕ → Found
+foundAt i = if eqb i placeCount then Nothing else At i
+
 -- what stands there; nothing is saved where no place was found
 abbrev pub placeAt : List Place → Found → Place
 placeAt ps (At i) = getD ps i noPlace

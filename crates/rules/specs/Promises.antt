@@ -3,6 +3,7 @@ use Prim.Native.Nat.{ℕ}
 use mathlib.Core.Path.{_≡_}
 use mathlib.Core.List.{List}
 use Rattle.rules.specs.Receiving.{segment}
+use Rattle.rules.specs.Delivery.{delivery}
 use Rattle.rules.specs.Sweep.{clock, release}
 use Rattle.rules.specs.Opening.{opening}
 use Rattle.rules.specs.Sending.{sending}
@@ -12,6 +13,7 @@ use Rattle.rules.specs.declared.Received.{Received}
 use Rattle.rules.specs.declared.Swept.{Swept}
 use Rattle.rules.specs.declared.Opened.{Opened}
 use Rattle.rules.specs.declared.Sent.{Sent}
+use Rattle.rules.specs.declared.Decision.{Decision}
 
 pub record OfOpening (registry : List ℕ) (timer time : ℕ) (answer : Opened) : Type 0 where
   pub answered : answer ≡ opening registry timer time
@@ -28,6 +30,9 @@ pub record OfClock (t : Table) (report : List ℕ) (time : ℕ) (answer : Swept)
 pub record OfRelease (t : Table) (report : List ℕ) (association : ℕ) (answer : Swept) (report′ : List ℕ) : Type 0 where
   pub answered : answer ≡ release t report association .answer
   pub reported : report′ ≡ release t report association .report
+
+pub record OfDelivery (d : Decision) (s store part : List ℕ) : Type 0 where
+  pub handed : part ≡ delivery d s store
 
 pub record OfSending (t : Table) (q : Request) (o d whole area : List ℕ) (answer : Sent) (area′ : List ℕ) : Type 0 where
   pub answered : answer ≡ sending t q o d whole area .answer

@@ -8,7 +8,7 @@ use Rattle.octets.specs.Splice.{splice}
 use Rattle.rules.specs.General.{if_then_else_}
 use Rattle.rules.specs.Numbers.{dataMost, storeLeast, placeStart}
 use Rattle.rules.specs.Refusals.{Check, _when_, judged}
-use Rattle.rules.specs.Layout.{isAlone, fieldsOf, readingChecks}
+use Rattle.rules.specs.Layout.{isUnsegmented, fieldsOf, readingChecks}
 use Rattle.rules.specs.Records.{delivered, lost, recordLength, zeroFilled, recordsOctets}
 use Rattle.rules.specs.Places.{freePlace, placeOf, lowestFree, isAt, numberOf, placeAt, putPlace}
 use Rattle.rules.specs.Soundness.{sound}
@@ -45,7 +45,7 @@ informationOf s f = drop (f .information) s
 -- the first line that applies, by whether the key is open, the remaining and the octets of its sequence so far, and the segment's heading and length
 unfoldable pub lineOf : Bool → ℕ → ℕ → Heading → ℕ → Line
 lineOf isOpen before saved g n =
-    if isAlone (g .new) (g .remaining .0) then Unsegmented else
+    if isUnsegmented (g .new) (g .remaining .0) then Unsegmented else
     if ltb 9 (g .remaining .0) then Broken 4 else
     if g .new && isOpen then Restart else
     if g .new then Start else
@@ -80,8 +80,8 @@ openPlace key remaining instruction segments octets start =
     record { key = key; octets = octets; start = start; mark = 1; instruction = instruction; remaining = remaining; segments = segments }
 
 -- only a first segment sets the start
-abbrev pub begun : Table → Key → Heading → ℕ → Place
-begun t key g n = openPlace key (g .remaining) (g .instruction) 1 n (t .clock)
+abbrev pub begun : ℕ → Key → Heading → ℕ → Place
+begun clock key g n = openPlace key (g .remaining) (g .instruction) 1 n clock
 
 abbrev pub longer : Place → Key → Heading → ℕ → Place
 longer p key g n = openPlace key (g .remaining) (p .instruction) (p .segments + 1) (p .octets + n) (p .start)
@@ -100,30 +100,30 @@ pub record Effect : Type 0 where
 abbrev effect : Decision → List Record → List Place → List ℕ → Effect
 effect d rs ps store = record { decision = d; records = rs; places = ps; store = store }
 
--- a segment of `key` with fields f and these octets: `place` is its key's, with p there, and `room` is where a new sequence goes
+-- a segment of `key` with fields f and these octets: `place` is its key's, with p there, and `vacant` is where a new sequence goes
 unfoldable pub effectOf : Line → Table → List ℕ → Key → Fields → List ℕ → Found → Place → Found → Effect
-effectOf Unsegmented t store key f octets place p room =
+effectOf Unsegmented t store key f octets place p vacant =
     let d : Decision = Delivered (OfParameter (f .information) (length octets)) in
     effect d (recordOf d key (f .heading .instruction) 1 (length octets) ∷ []) (t .places) store
-effectOf (Broken cause) t store key f octets place p room =
+effectOf (Broken cause) t store key f octets place p vacant =
     let d : Decision = Lost cause place in
     let instruction : ℕ = if isAt place then p .instruction else f .heading .instruction in
     effect d (recordOf d key instruction (p .segments + 1) (p .octets + length octets) ∷ []) (putPlace (t .places) place freePlace) store
-effectOf Restart t store key f octets place p room =
+effectOf Restart t store key f octets place p vacant =
     let d : Decision = Lost 3 place in
     effect d (recordOf d key (p .instruction) (p .segments) (p .octets) ∷ [])
-    (putPlace (t .places) place (begun t key (f .heading) (length octets)))
+    (putPlace (t .places) place (begun (t .clock) key (f .heading) (length octets)))
     (saveAt store (numberOf place) 0 octets)
-effectOf Start t store key f octets place p room =
-    effect (Saved (numberOf room)) []
-    (putPlace (t .places) room (begun t key (f .heading) (length octets)))
-    (saveAt store (numberOf room) 0 octets)
-effectOf Final t store key f octets place p room =
+effectOf Start t store key f octets place p vacant =
+    effect (Saved (numberOf vacant)) []
+    (putPlace (t .places) vacant (begun (t .clock) key (f .heading) (length octets)))
+    (saveAt store (numberOf vacant) 0 octets)
+effectOf Final t store key f octets place p vacant =
     let d : Decision = Delivered (OfStore (numberOf place) (p .octets + length octets)) in
     effect d (recordOf d key (p .instruction) (p .segments + 1) (p .octets + length octets) ∷ [])
     (putPlace (t .places) place freePlace)
     (saveAt store (numberOf place) (p .octets) octets)
-effectOf Next t store key f octets place p room =
+effectOf Next t store key f octets place p vacant =
     effect (Saved (numberOf place)) []
     (putPlace (t .places) place (longer p key (f .heading) (length octets)))
     (saveAt store (numberOf place) (p .octets) octets)
@@ -146,16 +146,25 @@ lineAt t key g n =
     let p : Place = placeAt (t .places) place in
     lineOf (isAt place) (p .remaining .0) (p .octets) g n
 
--- Segment: 1, 2, 3, 4, then 5 to 9 by the octets, then 10: line 3 applies and no place is free
+-- the table and the lent areas, by their lengths
+abbrev pub lentChecks : Bool → ℕ → ℕ → List Check
+lentChecks sound store report =
+    1 when not sound ∷
+    2 when ltb store storeLeast ∷
+    3 when ltb report recordLength ∷ []
+
+-- where the line takes it: line 3 applies and no place is free
+abbrev pub takingChecks : Line → List Place → List Check
+takingChecks line ps =
+    10 when (isStart line && not (isAt (lowestFree ps))) ∷ []
+
+-- Segment: 1, 2, 3, 4, then 5 to 9 by the octets, then 10
 unfoldable pub segmentChecks : Table → List ℕ → List ℕ → ℕ → List ℕ → List Check
 segmentChecks t store report association s =
     let f : Fields = fieldsOf (t .registry) s in
-    let line : Line = lineAt t (keyOf association s f) (f .heading) (length (informationOf s f)) in
-    (1 when not (sound t) ∷
-    2 when ltb (length store) storeLeast ∷
-    3 when ltb (length report) recordLength ∷ [])
+    lentChecks (sound t) (length store) (length report)
     ++ readingChecks (t .registry) s
-    ++ (10 when (isStart line && not (isAt (lowestFree (t .places)))) ∷ [])
+    ++ takingChecks (lineAt t (keyOf association s f) (f .heading) (length (informationOf s f))) (t .places)
 
 -- what a call leaves: its answer, the store and the report area
 pub record Reception : Type 0 where
@@ -182,8 +191,9 @@ receivedAt t store report association s =
     (effectOf (lineAt t key (f .heading) (length octets)) t store key f octets place (placeAt (t .places) place) (lowestFree (t .places)))
 
 -- a refusal returns its number, the table as it came, zero records, and no lent octet is altered
+abbrev pub unreceived : Table → List ℕ → List ℕ → ℕ → Reception
+unreceived t store report n = record { answer = record { table = t; decision = Refused; refusal = n; records = 0 }; store = store; report = report }
+
 unfoldable pub segment : Table → List ℕ → List ℕ → ℕ → List ℕ → Reception
 segment t store report association s =
-    judged (segmentChecks t store report association s)
-    (λ n. record { answer = record { table = t; decision = Refused; refusal = n; records = 0 }; store = store; report = report })
-    (receivedAt t store report association s)
+    judged (segmentChecks t store report association s) (unreceived t store report) (receivedAt t store report association s)

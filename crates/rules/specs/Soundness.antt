@@ -5,7 +5,7 @@ use mathlib.Core.List.{List}
 use lib.Dec.{eqb, leb, ltb}
 use lib.ListN.{drop}
 use Rattle.rules.specs.General.{every, everyTwo}
-use Rattle.rules.specs.Numbers.{timerInRange, referenceMost, instructionMost, segmentsMost, dataMost, addressMost, age}
+use Rattle.rules.specs.Numbers.{timerInRange, referenceMost, instructionMost, segmentsMost, dataMost, addressMost, elapsed}
 use Rattle.rules.specs.Registry.{kindOf, registrySound}
 use Rattle.rules.specs.Places.{sameKey, isOpen, isFree}
 use Rattle.rules.specs.declared.Entry.{Entry}
@@ -35,7 +35,7 @@ openSound registry timer clock p =
     && leb (p .segments + p .remaining .0) segmentsMost
     && leb (p .octets) dataMost
     && addressSound (kindOf registry (p .key .context .0)) p
-    && ltb (age clock (p .start)) timer
+    && ltb (elapsed clock (p .start)) timer
 
 -- free places are all zero
 unfoldable pub freeSound : Place → Bool

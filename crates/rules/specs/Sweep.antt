@@ -1,12 +1,12 @@
 -- Section 'Receiving', the clock and the release: both lose every sequence that a test is for, in place order.
 use Prim.Native.Nat.{ℕ, _*_, _^_}
 use mathlib.Core.Bool.{Bool, not, _&&_}
-use mathlib.Core.List.{List, [], _∷_, map}
+use mathlib.Core.List.{List, [], _∷_, _++_, map}
 use lib.Dec.{eqb, leb, ltb}
 use lib.ListN.{length}
 use Rattle.octets.specs.Splice.{splice}
 use Rattle.rules.specs.General.{if_then_else_, those}
-use Rattle.rules.specs.Numbers.{placeCount, age}
+use Rattle.rules.specs.Numbers.{placeCount, elapsed}
 use Rattle.rules.specs.Refusals.{Check, _when_, judged}
 use Rattle.rules.specs.Records.{recordLength, recordsOctets, lost}
 use Rattle.rules.specs.Places.{isOpen, freePlace}
@@ -21,6 +21,10 @@ abbrev pub lossOf : ℕ → Place → Record
 lossOf cause p =
     record { key = p .key; octets = p .octets; kind = lost; instruction = p .instruction; cause = cause; segments = p .segments }
 
+-- the records of those that a test is for, in place order
+abbrev pub lossesBy : (Place → Bool) → ℕ → List Place → List Record
+lossesBy test cause ps = map (lossOf cause) (those test ps)
+
 abbrev pub freedBy : (Place → Bool) → Place → Place
 freedBy test p = if test p then freePlace else p
 
@@ -32,7 +36,7 @@ pub record Sweeping : Type 0 where
 -- the places that the test is for, lost at a time
 unfoldable pub sweep : (Place → Bool) → ℕ → ℕ → Table → List ℕ → Sweeping
 sweep test cause time t report =
-    let records : List Record = map (lossOf cause) (those test (t .places)) in
+    let records : List Record = lossesBy test cause (t .places) in
     record {
       answer = record {
         table = record { places = map (freedBy test) (t .places); registry = t .registry; timer = t .timer; clock = time };
@@ -51,14 +55,22 @@ unswept t report n = record { answer = record { table = t; refusal = n; records 
 
 -- every sequence whose age is T or more
 abbrev pub isDue : ℕ → ℕ → Place → Bool
-isDue time timer p = isOpen p && leb timer (age time (p .start))
+isDue time timer p = isOpen p && leb timer (elapsed time (p .start))
 
--- Clock: 1, 3, 13; a step of 2^31 or more is refused
+-- the table and the report area, by its length
+abbrev pub sweepChecks : Bool → ℕ → List Check
+sweepChecks sound report =
+    1 when not sound ∷
+    3 when ltb report reportLeast ∷ []
+
+-- a step of 2^31 or more is refused
+abbrev pub stepChecks : ℕ → ℕ → List Check
+stepChecks time clock =
+    13 when leb (2 ^ 31) (elapsed time clock) ∷ []
+
+-- Clock: 1, 3, 13
 unfoldable pub clockChecks : Table → List ℕ → ℕ → List Check
-clockChecks t report time =
-    1 when not (sound t) ∷
-    3 when ltb (length report) reportLeast ∷
-    13 when leb (2 ^ 31) (age time (t .clock)) ∷ []
+clockChecks t report time = sweepChecks (sound t) (length report) ++ stepChecks time (t .clock)
 
 -- the time is stored and every sequence whose age is T or more gives Lost, cause 6
 unfoldable pub clock : Table → List ℕ → ℕ → Sweeping
@@ -70,9 +82,7 @@ isOf association p = isOpen p && eqb (p .key .association) association
 
 -- Release: 1, 3
 unfoldable pub releaseChecks : Table → List ℕ → List Check
-releaseChecks t report =
-    1 when not (sound t) ∷
-    3 when ltb (length report) reportLeast ∷ []
+releaseChecks t report = sweepChecks (sound t) (length report)
 
 -- every sequence of the association gives Lost, cause 7
 unfoldable pub release : Table → List ℕ → ℕ → Sweeping

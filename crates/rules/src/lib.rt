@@ -1,4 +1,22 @@
-// The types of document 01. No code: what the calls do with them is in specs/, one file for each section of the paper.
+// The types of document 01. No code: what the calls do with them is in specs/; specs/Lib.antt says which section of the paper is where.
+
+// The paper's numbers, each here alone: places, the octets of a place's stretch of the store, of the store, of a record and of a report for every place; the most octets of data, of a
+// parameter and of an address.
+pub const PLACES: usize = 16;
+
+pub const STRETCH: usize = 2048;
+
+pub const STORE: usize = PLACES * STRETCH;
+
+pub const RECORD: usize = 32;
+
+pub const REPORT: usize = PLACES * RECORD;
+
+pub const DATA: usize = 2048;
+
+pub const PARAMETER: usize = 255;
+
+pub const ADDRESS: usize = 20;
 
 // Segments remaining, local reference and context are separate numbers, and none stands for another.
 #[repr(C)]
@@ -13,7 +31,7 @@ pub struct Context(pub u16);
 // What names a sequence. The originating address is its length and its octets, zero filled.
 #[repr(C)]
 pub struct Key {
-    pub address: [u8; 20],
+    pub address: [u8; ADDRESS],
     pub association: u16,
     pub context: Context,
     pub reference: Reference,
@@ -42,7 +60,7 @@ pub struct Entry {
 // All that is kept between calls, beside the lent store. Any bits are a value of it: no bool, no enum.
 #[repr(C)]
 pub struct Table {
-    pub places: [Place; 16],
+    pub places: [Place; PLACES],
     pub registry: [Entry; 8],
     pub timer: u32,
     pub clock: u32,

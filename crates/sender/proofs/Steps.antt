@@ -12,9 +12,9 @@ use Rattle.octets.specs.Splice.{splice}
 use Rattle.rules.specs.General.{if_then_else_}
 use Rattle.rules.specs.Refusals.{Check, _when_, accepted, first, judged}
 use Rattle.rules.specs.Registry.{kindOf}
-use Rattle.rules.specs.Layout.{isAlone, hasAddresses, contextOctets, sequenceOctets, addressesOctets, parameterOctets}
+use Rattle.rules.specs.Layout.{isUnsegmented, hasAddresses, contextOctets, sequenceOctets, addressesOctets, parameterOctets}
 use Rattle.rules.specs.Soundness.{sound}
-use Rattle.rules.specs.Sending.{Sending, headerLength, isSegmented, carried, countOf, segmentOctets, sendingChecks, sending}
+use Rattle.rules.specs.Sending.{Sending, headerLength, isSegmented, carried, countOf, segmentOctets, sendingChecks, sending, headingWith, requestChecks, cutChecks, unsent}
 use Rattle.rules.proofs.Refusals.{judged-append, judged-then, judged-first, first-accepted}
 use Rattle.rules.proofs.Cutting.{neither, kind-known, parameter-length}
 use Rattle.rules.specs.declared.Table.{Table}
@@ -22,12 +22,12 @@ use Rattle.rules.specs.declared.Heading.{Heading}
 use Rattle.rules.specs.declared.Request.{Request}
 use Rattle.rules.specs.declared.Sent.{Sent}
 use Rattle.rules.specs.Promises.{OfSending}
-use Rattle.writing.specs.Writing.{Writable}
-use Rattle.cutting.specs.Plan.{headerFor, cutChecks, pieceOf, planOf}
-use Rattle.cutting.specs.declared.Piece.{Piece}
-use Rattle.cutting.specs.declared.Plan.{Plan}
-use Rattle.cutting.specs.declared.Plan.the-variants.{Cut, NoCut}
-use Rattle.sender.specs.Steps.{requestChecks, headingWith, octetsWith, refusedAs, emitted, Emitted, Ready}
+use Rattle.param_write.specs.Writing.{Writable}
+use Rattle.send_cut.specs.Plan.{headerFor, pieceOf, planOf}
+use Rattle.send_cut.specs.declared.Piece.{Piece}
+use Rattle.send_cut.specs.declared.Plan.{Plan}
+use Rattle.send_cut.specs.declared.Plan.the-variants.{Cut, NoCut}
+use Rattle.sender.specs.Steps.{octetsWith, emitted, Emitted, Ready}
 
 -- what is asked passes its checks
 pub record Asked (sound : Bool) (kind : ℕ) (q : Request) (o d n : ℕ) : Type 0 where
@@ -77,10 +77,10 @@ header-is kind x o d = go (ltb x 128) refl (hasAddresses kind) refl
 
 -- a parameter's length, by its header's
 pub total-is : (g : Heading) (o d information : List ℕ)
-    → length (parameterOctets g o d information) ≡ headerLength (g .kind) (g .context .0) o d + (if isAlone (g .new) (g .remaining .0) then 0 else 1) + length information
-total-is g o d information = parameter-length g o d information ∙ go (isAlone (g .new) (g .remaining .0)) refl
+    → length (parameterOctets g o d information) ≡ headerLength (g .kind) (g .context .0) o d + (if isUnsegmented (g .new) (g .remaining .0) then 0 else 1) + length information
+total-is g o d information = parameter-length g o d information ∙ go (isUnsegmented (g .new) (g .remaining .0)) refl
   where
-    go : (b : Bool) → isAlone (g .new) (g .remaining .0) ≡ b
+    go : (b : Bool) → isUnsegmented (g .new) (g .remaining .0) ≡ b
         → length (contextOctets (g .context .0)) + 1 + length (sequenceOctets g) + length (addressesOctets (g .kind) o d) + length information
         ≡ headerLength (g .kind) (g .context .0) o d + (if b then 0 else 1) + length information
     go true e = simp e (omega arith)
@@ -99,11 +99,11 @@ numbered kind q p reference =
     }
 
 pub heading-is : (kind : ℕ) (q : Request) (p : Piece) (reference : ℕ) → reference ≡ (if p .segmented then q .reference .0 else 255)
-    → numbered kind q p reference ≡ headingWith kind q p
+    → numbered kind q p reference ≡ headingWith kind q (p .count) (p .segmented)
 heading-is kind q p reference e = ap (numbered kind q p) e
 
 -- the heading of a piece can be written
-pub writable : (kind : ℕ) (q : Request) (p : Piece) (h : ℕ) (o d whole : List ℕ) → Ready kind q p h o d whole → Writable (headingWith kind q p)
+pub writable : (kind : ℕ) (q : Request) (p : Piece) (h : ℕ) (o d whole : List ℕ) → Ready kind q p h o d whole → Writable (headingWith kind q (p .count) (p .segmented))
 writable kind q p h o d whole r =
     record {
       context = r .context;
@@ -112,7 +112,7 @@ writable kind q p h o d whole r =
       reference = λ alone. go (p .segmented) refl alone;
     }
   where
-    go : (b : Bool) → p .segmented ≡ b → isAlone (eqb (q .number) 0) (p .count - 1 - q .number) ≡ false → (if b then q .reference .0 else 255) < 128
+    go : (b : Bool) → p .segmented ≡ b → isUnsegmented (eqb (q .number) 0) (p .count - 1 - q .number) ≡ false → (if b then q .reference .0 else 255) < 128
     go true e alone = omega (arith, r .reference)
     go false e alone =
         let one = r .possible .one e in
@@ -121,11 +121,11 @@ writable kind q p h o d whole r =
 
 -- the last step: the length that it finds, and what it leaves
 module _ (kind : ℕ) (q : Request) (p : Piece) (h : ℕ) (o d whole : List ℕ) (ready : Ready kind q p h o d whole) where
-  pub total : (g : Heading) (x : ℕ) (information : List ℕ) → g ≡ headingWith kind q p → x ≡ (if isAlone (g .new) (g .remaining .0) then 0 else 1)
+  pub total : (g : Heading) (x : ℕ) (information : List ℕ) → g ≡ headingWith kind q (p .count) (p .segmented) → x ≡ (if isUnsegmented (g .new) (g .remaining .0) then 0 else 1)
       → information ≡ take (p .size) (drop (p .from) whole) → h + x + length information ≡ length (octetsWith kind q p o d whole)
   unfolding octetsWith
   total g x information e f i =
-      rw (f, i, e, ready .header) (sym (total-is (headingWith kind q p) o d (take (p .size) (drop (p .from) whole))))
+      rw (f, i, e, ready .header) (sym (total-is (headingWith kind q (p .count) (p .segmented)) o d (take (p .size) (drop (p .from) whole))))
 
 pub emit-refused : (octets : List ℕ) (count : ℕ) (area : List ℕ) → length area < length octets
     → Emitted octets count area (record { refusal = 20; count = 0; length = 0 }) area
@@ -137,7 +137,7 @@ pub emit-done : (octets : List ℕ) (count : ℕ) (area area′ : List ℕ) (n :
 unfolding emitted
 emit-done octets count area area′ n h e f = record { answered = simp (le-ltb _ _ h, e); written = f ∙ simp (le-ltb _ _ h) }
 
--- a piece is the stretch that the segment carries
+-- a piece is what the segment carries
 carried-is : (h : ℕ) (q : Request) (whole : List ℕ) → carried h q whole ≡ take (pieceOf h q (length whole) .size) (drop (pieceOf h q (length whole) .from) whole)
 carried-is h q whole = go (isSegmented h q (length whole)) refl (q .number) refl
   where
@@ -149,11 +149,11 @@ carried-is h q whole = go (isSegmented h q (length whole)) refl (q .number) refl
 
 -- after the request, the cut; after the cut, the segment
 abbrev pub afterPlan : ℕ → Request → List ℕ → List ℕ → List ℕ → List ℕ → Plan → Sending
-afterPlan kind q o d whole area (NoCut n) = refusedAs area n
+afterPlan kind q o d whole area (NoCut n) = unsent area n
 afterPlan kind q o d whole area (Cut p) = emitted (octetsWith kind q p o d whole) (p .count) area
 
 pub sending-is : (t : Table) (q : Request) (o d whole area : List ℕ) → sending t q o d whole area
-    ≡ judged (requestChecks (sound t) (kindOf (t .registry) (q .context .0)) q (length o) (length d) (length whole)) (refusedAs area)
+    ≡ judged (requestChecks (sound t) (kindOf (t .registry) (q .context .0)) q (length o) (length d) (length whole)) (unsent area)
     (afterPlan (kindOf (t .registry) (q .context .0)) q o d whole area (planOf (headerLength (kindOf (t .registry) (q .context .0)) (q .context .0) o d) q (length whole)))
 unfolding sending sendingChecks planOf emitted octetsWith segmentOctets
 sending-is t q o d whole area =
@@ -164,10 +164,10 @@ sending-is t q o d whole area =
     let octets : List ℕ = segmentOctets kind q o d whole in
     let fits : List Check = 20 when ltb (length area) (length octets) ∷ [] in
     let made : Sending = record { answer = record { refusal = 0; count = countOf h q (length whole); length = length octets }; area = splice area 0 octets } in
-    judged-append (asks ++ cuts) fits (refusedAs area) made
-    ∙ judged-append asks cuts (refusedAs area) _
-    ∙ ap (λ (r : Sending). judged asks (refusedAs area) r)
-    (sym (judged-then (afterPlan kind q o d whole area) cuts NoCut (Cut (pieceOf h q (length whole))) ∙ ap (λ (r : Sending). judged cuts (refusedAs area) r) (rw (carried-is h q whole))))
+    judged-append (asks ++ cuts) fits (unsent area) made
+    ∙ judged-append asks cuts (unsent area) _
+    ∙ ap (λ (r : Sending). judged asks (unsent area) r)
+    (sym (judged-then (afterPlan kind q o d whole area) cuts NoCut (Cut (pieceOf h q (length whole))) ∙ ap (λ (r : Sending). judged cuts (unsent area) r) (rw (carried-is h q whole))))
 
 -- the three ways out of the call
 module _ (t : Table) (q : Request) (o d whole area : List ℕ) where
@@ -188,10 +188,10 @@ module _ (t : Table) (q : Request) (o d whole area : List ℕ) where
 
   pub not-asked : (n : ℕ) → n ≡ first asks → (n ≡ 0 → ⊥) → OfSending t q o d whole area (record { refusal = n; count = 0; length = 0 }) area
   not-asked n e h =
-      as-rule (refusedAs area n) (sending-is t q o d whole area ∙ judged-first asks (refusedAs area) _ (λ z. h (e ∙ z)) ∙ rw (← e))
+      as-rule (unsent area n) (sending-is t q o d whole area ∙ judged-first asks (unsent area) _ (λ z. h (e ∙ z)) ∙ rw (← e))
 
   pub not-cut : (n : ℕ) → first asks ≡ 0 → plan ≡ NoCut n → OfSending t q o d whole area (record { refusal = n; count = 0; length = 0 }) area
-  not-cut n e f = as-rule (refusedAs area n) (passed e ∙ rw f)
+  not-cut n e f = as-rule (unsent area n) (passed e ∙ rw f)
 
   pub is-cut : (p : Piece) (r : Sent) (area′ : List ℕ) → first asks ≡ 0 → plan ≡ Cut p → Emitted (octetsWith kind q p o d whole) (p .count) area r area′
       → OfSending t q o d whole area r area′
@@ -199,6 +199,6 @@ module _ (t : Table) (q : Request) (o d whole area : List ℕ) where
       let w = as-rule (emitted (octetsWith kind q p o d whole) (p .count) area) (passed e ∙ rw f) in
       record { answered = m .answered ∙ w .answered; written = m .written ∙ w .written }
 
--- a stretch is no longer than the whole
-pub stretch-short : (n m : ℕ) (whole : List ℕ) → length (take n (drop m whole)) ≤ length whole
-stretch-short n m whole = simp (length-take, length-drop) (omega arith)
+-- a part is no longer than the whole
+pub part-short : (n m : ℕ) (whole : List ℕ) → length (take n (drop m whole)) ≤ length whole
+part-short n m whole = simp (length-take, length-drop) (omega arith)

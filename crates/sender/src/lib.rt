@@ -1,20 +1,21 @@
 // Sending: data cut into segments, one segment a call.
-use cutting::Piece;
-use cutting::Plan;
 use rules::Heading;
 use rules::Reference;
 use rules::Remaining;
 use rules::Request;
 use rules::Sent;
 use rules::Table;
+use send_cut::Piece;
+use send_cut::Plan;
 ghost use mathlib.Core.Path.{_≡_};
 ghost use Prim.Native.Nat.{_≤_};
 ghost use Rattle.rules.specs.General.{if_then_else_};
 ghost use Rattle.rules.specs.Refusals.{first};
 ghost use Rattle.rules.specs.Promises.{OfSending};
-ghost use Rattle.rules.specs.Layout.{isAlone};
-ghost use Rattle.cutting.specs.Plan.{Possible};
-ghost use Rattle.sender.specs.Steps.{requestChecks, headingWith, octetsWith, Emitted, Ready};
+ghost use Rattle.rules.specs.Layout.{isUnsegmented};
+ghost use Rattle.send_cut.specs.Plan.{Possible};
+ghost use Rattle.rules.specs.Sending.{requestChecks, headingWith};
+ghost use Rattle.sender.specs.Steps.{octetsWith, Emitted, Ready};
 
 // The number of the first check that applies to what is asked, rooms and area aside; 0 where none does.
 fn request_refusal(sound: bool, kind: u8, q: Request, o: usize, d: usize, n: usize) -> u8
@@ -61,7 +62,7 @@ fn reference_for(q: Request, segmented: bool) -> Reference
 // The heading of the segment that a piece is of.
 fn heading(kind: u8, q: Request, p: Piece) -> Heading
     requires { ⌜ Possible (q .number) p ⌝ }
-    ensures { λ r. ⌜ r ≡ headingWith kind q p ⌝ }
+    ensures { λ r. ⌜ r ≡ headingWith kind q (p .count) (p .segmented) ⌝ }
 {
     let context = q.context;
     let reference = reference_for(q, p.segmented);
@@ -77,7 +78,7 @@ fn heading(kind: u8, q: Request, p: Piece) -> Heading
 
 // Octet 3a, where there is one.
 fn extra(g: Heading) -> usize
-    ensures { λ r. ⌜ r ≡ (if isAlone (g .new) (g .remaining .0) then 0 else 1) ⌝ }
+    ensures { λ r. ⌜ r ≡ (if isUnsegmented (g .new) (g .remaining .0) then 0 else 1) ⌝ }
     ensures { λ r. ⌜ r ≤ 1 ⌝ }
 {
     let alone = g.new & (g.remaining.0 == 0);
@@ -103,7 +104,7 @@ fn emit(
 {
     let from = p.from;
     let size = p.size;
-    let information = octets::stretch(whole, from, size);
+    let information = octets::part(whole, from, size);
     let g = heading(kind, q, p);
     let total = h + extra(g) + information.len();
     if area.len() < total {
@@ -113,7 +114,7 @@ fn emit(
             length: 0,
         };
     }
-    writing::write(area, g, origin, destination, information);
+    param_write::write(area, g, origin, destination, information);
     Sent {
         refusal: 0,
         count: p.count as u8,
@@ -135,7 +136,7 @@ pub fn sending(
     let registry = t.registry;
     let context = q.context;
     let kind = registry::kind_of(registry, context);
-    let sound = soundness::is_sound(t);
+    let sound = sound::is_sound(t);
     let o = origin.len();
     let d = destination.len();
     let n = whole.len();
@@ -147,8 +148,8 @@ pub fn sending(
             length: 0,
         };
     }
-    let h = cutting::header_length(kind, context, o, d);
-    match cutting::cut(h, q, n) {
+    let h = send_cut::header_length(kind, context, o, d);
+    match send_cut::cut(h, q, n) {
         Plan::NoCut(number) => Sent {
             refusal: number,
             count: 0,

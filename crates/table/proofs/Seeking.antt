@@ -9,12 +9,12 @@ use lib.Dec.{eqb}
 use lib.ListN.{length, drop, getD, drop-of-length-le}
 use Rattle.rules.specs.General.{if_then_else_}
 use Rattle.rules.specs.Numbers.{placeCount}
-use Rattle.rules.specs.Places.{noPlace, firstFrom}
+use Rattle.rules.specs.Places.{noPlace, firstFrom, foundAt}
 use Rattle.rules.specs.declared.Place.{Place}
 use Rattle.rules.specs.declared.Found.{Found}
 use Rattle.rules.specs.declared.Found.the-variants.{At}
 use Rattle.rules.proofs.Lists.{left}
-use Rattle.table.specs.Seeking.{soonerOf, foundAt}
+use Rattle.table.specs.Seeking.{soonerOf}
 
 abbrev pub before-or : ℕ → Found → Found
 before-or found rest = if eqb found placeCount then rest else At found

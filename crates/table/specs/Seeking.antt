@@ -13,12 +13,9 @@ use Rattle.table.specs.declared.Search.{Search}
 abbrev pub soonerOf : ℕ → Bool → ℕ → ℕ
 soonerOf found passes i = if eqb found placeCount then (if passes then i else placeCount) else found
 
-abbrev pub foundAt : ℕ → Found
-foundAt i = if eqb i placeCount then Nothing else At i
-
 -- where a key is open, or else where a free place is, as one number
-pub record Points (place room : Found) (r : Search) : Type 0 where
+pub record Points (place vacant : Found) (r : Search) : Type 0 where
   pub inside : r .at < placeCount
   pub open-at : place ≡ (if r .found then At (r .at) else Nothing)
-  pub has-room : r .found ≡ false → r .room ≡ isAt room
-  pub free-at : r .found ≡ false → r .room ≡ true → room ≡ At (r .at)
+  pub has-vacant : r .found ≡ false → r .vacant ≡ isAt vacant
+  pub free-at : r .found ≡ false → r .vacant ≡ true → vacant ≡ At (r .at)

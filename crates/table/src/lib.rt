@@ -7,13 +7,13 @@ use rules::Reference;
 use rules::Remaining;
 ghost use mathlib.Core.Path.{_≡_};
 ghost use Prim.Native.Nat.{_≤_};
-ghost use Rattle.rules.specs.Numbers.{age};
-ghost use Rattle.rules.specs.Places.{sameOctets, sameKey, holds, placeOf, lowestFree, freePlace};
-ghost use Rattle.table.specs.Seeking.{soonerOf, foundAt, Points};
+ghost use Rattle.rules.specs.Numbers.{elapsed};
+ghost use Rattle.rules.specs.Places.{sameOctets, sameKey, holds, placeOf, lowestFree, freePlace, foundAt};
+ghost use Rattle.table.specs.Seeking.{soonerOf, Points};
 
 // The new time less the old, modulo 2^32: an age, and a step of the clock.
-pub fn age_of(new: u32, old: u32) -> u32
-    ensures { λ r. ⌜ r ≡ age new old ⌝ }
+pub fn elapsed(new: u32, old: u32) -> u32
+    ensures { λ r. ⌜ r ≡ elapsed new old ⌝ }
 {
     std::num::wrapping_sub_u32(new, old)
 }
@@ -48,11 +48,11 @@ pub fn same_key(a: Key, b: Key) -> bool
     false
 }
 
-// The place that a key's segment is about: the key's own where it is found, or else the lowest free one where there is room, or else 0. Where the key is found room says nothing.
+// The place that a key's segment is about: the key's own where it is found, or else the lowest free one where there is vacant, or else 0. Where the key is found vacant says nothing.
 pub struct Search {
     pub at: usize,
     pub found: bool,
-    pub room: bool,
+    pub vacant: bool,
 }
 
 // Whether a place is open with a key.
@@ -82,21 +82,21 @@ fn sooner(found: usize, passes: bool, i: usize) -> usize
 }
 
 // What a search gives that did not find the key, by the number of the lowest free place; 16 is none.
-fn unfound(room: usize) -> Search
-    requires { ⌜ room ≤ 16 ⌝ }
-    ensures { λ r. ⌜ Points Found.Nothing (foundAt room) r ⌝ }
+fn unfound(vacant: usize) -> Search
+    requires { ⌜ vacant ≤ 16 ⌝ }
+    ensures { λ r. ⌜ Points Found.Nothing (foundAt vacant) r ⌝ }
 {
-    if room != 16 {
+    if vacant != 16 {
         return Search {
-            at: room,
+            at: vacant,
             found: false,
-            room: true,
+            vacant: true,
         };
     }
     Search {
         at: 0,
         found: false,
-        room: false,
+        vacant: false,
     }
 }
 
@@ -104,7 +104,7 @@ fn unfound(room: usize) -> Search
 pub fn search_for(places: [Place; 16], k: Key) -> Search
     ensures { λ r. ⌜ Points (placeOf k places) (lowestFree places) r ⌝ }
 {
-    let mut room = 16;
+    let mut vacant = 16;
     let mut i = 0;
     while i < 16 {
         let p = places[i];
@@ -112,13 +112,13 @@ pub fn search_for(places: [Place; 16], k: Key) -> Search
             return Search {
                 at: i,
                 found: true,
-                room: true,
+                vacant: true,
             };
         }
-        room = sooner(room, p.mark == 0, i);
+        vacant = sooner(vacant, p.mark == 0, i);
         i += 1;
     }
-    unfound(room)
+    unfound(vacant)
 }
 
 // The lowest free place.

@@ -24,11 +24,11 @@ use Rattle.rules.specs.declared.Line.{Line}
 use Rattle.rules.specs.declared.Line.the-variants.{Unsegmented, Broken, Restart, Start, Final, Next}
 use Rattle.rules.proofs.Answers.{segment-by, clock-by, release-by}
 use Rattle.rules.proofs.Arrived.{arrived}
-use Rattle.events.specs.Events.{replayOf, stepOf, OfEvent}
-use Rattle.events.specs.declared.Replay.{Replay}
-use Rattle.events.specs.declared.Answered.{Answered}
-use Rattle.events.proofs.Replay.{the-type}
-use Rattle.events.proofs.Replay.Laws.{the-laws}
+use Rattle.trace_events.specs.Events.{replayOf, stepOf, OfEvent}
+use Rattle.trace_events.specs.declared.Replay.{Replay}
+use Rattle.trace_events.specs.declared.Answered.{Answered}
+use Rattle.trace_events.proofs.Replay.{the-type}
+use Rattle.trace_events.proofs.Replay.Laws.{the-laws}
 use denote.Laws.{Is}
 use denote.Struct.Declared.{row}
 use denote.Struct.Laws.{val}

@@ -8,13 +8,13 @@ use Rattle.octets.specs.Splice.{Wrote}
 use Rattle.rules.specs.Calls.{step}
 use Rattle.rules.specs.Trace.{isOpening, reportAfter, replayLine}
 use Rattle.rules.specs.declared.Table.{Table}
-use Rattle.printing.specs.Printing.{lineFor}
-use Rattle.items.specs.Reading.{eventMeant, kindFor}
-use Rattle.items.specs.declared.Event as code
-use Rattle.items.specs.declared.Event.the-variants as event
-use Rattle.events.specs.Events.{replayOf, stepOf, OfEvent}
-use Rattle.events.specs.declared.Replay.{Replay}
-use Rattle.events.specs.declared.Answered.{Answered}
+use Rattle.trace_lines.specs.Printing.{lineFor}
+use Rattle.trace_items.specs.Reading.{eventMeant, kindFor}
+use Rattle.trace_items.specs.declared.Event as code
+use Rattle.trace_items.specs.declared.Event.the-variants as event
+use Rattle.trace_events.specs.Events.{replayOf, stepOf, OfEvent}
+use Rattle.trace_events.specs.declared.Replay.{Replay}
+use Rattle.trace_events.specs.declared.Answered.{Answered}
 use Rattle.trace.specs.Turns.{OfTurn, happening}
 
 -- the line by the kind octet is the event's; an opening makes no records, so that any report does

@@ -3,3 +3,5 @@ pub mod Happening
 pub mod Fitting
 pub mod Turning
 pub mod Running
+pub mod Keeping
+pub mod Whole

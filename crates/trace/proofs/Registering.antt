@@ -7,8 +7,8 @@ use Rattle.octets.specs.Splice.{splice}
 use Rattle.octets.proofs.Splice.{splice-nil}
 use Rattle.rules.specs.General.{if_then_else_}
 use Rattle.rules.specs.Trace.{stopLine}
-use Rattle.events.specs.Events.{keeping}
-use Rattle.events.specs.declared.Replay.{Replay}
+use Rattle.trace_events.specs.Events.{keeping}
+use Rattle.trace_events.specs.declared.Replay.{Replay}
 use Rattle.trace.specs.Turns.{OfTurn, Registered, stopping}
 use Rattle.trace.specs.declared.Progress.{Progress}
 use Rattle.trace.proofs.Turning.{as-stopping}

@@ -12,7 +12,7 @@ use lib.ListN.{length, take, drop, length-take, length-drop}
 use lib.Seq.{take-all, drop-drop}
 use Rattle.octets.specs.Splice.{Wrote}
 use Rattle.octets.proofs.Splice.{splice-nil, splice-length, splice-tail, wrote-then}
-use Rattle.events.specs.declared.Replay.{Replay}
+use Rattle.trace_events.specs.declared.Replay.{Replay}
 use Rattle.trace.specs.Turns.{Turned, OfTurn, waiting, turned, joined, lineMost, runs}
 use Rattle.trace.specs.declared.Progress.{Progress}
 use Rattle.trace.proofs.Turning.{turned-none}

@@ -11,9 +11,9 @@ use Rattle.octets.specs.Splice.{splice, Wrote}
 use Rattle.octets.proofs.Splice.{splice-nil}
 use Rattle.rules.specs.General.{if_then_else_}
 use Rattle.rules.specs.Trace.{isKnown, bodyLength, itemOf, stopLine}
-use Rattle.items.specs.Reading.{bodyOf}
-use Rattle.items.specs.declared.Body.the-variants.{Of, Unknown}
-use Rattle.events.specs.declared.Replay.{Replay}
+use Rattle.trace_items.specs.Reading.{bodyOf}
+use Rattle.trace_items.specs.declared.Body.the-variants.{Of, Unknown}
+use Rattle.trace_events.specs.declared.Replay.{Replay}
 use Rattle.trace.specs.Turns.{OfTurn, waiting, stopping, atItem, turned}
 use Rattle.trace.specs.declared.Progress.{Progress}
 

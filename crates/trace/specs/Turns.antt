@@ -9,8 +9,8 @@ use Rattle.octets.specs.Splice.{Wrote}
 use Rattle.rules.specs.General.{if_then_else_}
 use Rattle.rules.specs.Calls.{Outcome}
 use Rattle.rules.specs.Trace.{Event, Item, Registers, Happens, Stops, isKnown, bodyLength, itemOf, isOpening, reportAfter, replayLine, stopLine}
-use Rattle.events.specs.Events.{replayOf, stepOf, keeping}
-use Rattle.events.specs.declared.Replay.{Replay}
+use Rattle.trace_events.specs.Events.{replayOf, stepOf, keeping}
+use Rattle.trace_events.specs.declared.Replay.{Replay}
 use Rattle.trace.specs.declared.Progress.{Progress}
 
 -- what is done with the front of an input: what is printed, what is held then, how many octets are used, whether the replay has ended

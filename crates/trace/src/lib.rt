@@ -1,8 +1,8 @@
 // Traces: one record to one event, one step of the calls and one line; and a block of records at a time.
-use events::Replay;
-use items::Body;
-use items::Event;
-use items::Item;
+use trace_events::Replay;
+use trace_items::Body;
+use trace_items::Event;
+use trace_items::Item;
 ghost use mathlib.Core.Path.{_≡_};
 ghost use mathlib.Core.Bool.{true, false};
 ghost use Prim.Native.Nat.{_+_, _≤_};
@@ -10,7 +10,7 @@ ghost use lib.ListN.{length, replicate};
 ghost use Rattle.octets.specs.Splice.{splice, Wrote};
 ghost use Rattle.rules.specs.Opening.{unopened};
 ghost use Rattle.rules.specs.Trace.{isKnown, bodyLength, itemOf, stopLine};
-ghost use Rattle.items.specs.Reading.{eventMeant};
+ghost use Rattle.trace_items.specs.Reading.{eventMeant};
 ghost use Rattle.trace.specs.Turns.{OfTurn, Registered, happening, atItem, turned, runs, endLine};
 
 // What was done with the front of an input: so many of its octets are used, so many are written, and the replay has ended or goes on.
@@ -38,7 +38,7 @@ fn stops(held: Replay, out: &mut [u8]) -> Progress
     ensures { λ r. ⌜ r ≡ record { replay = held; used = 0; written = 5; ended = true } ⌝ }
     ensures { λ _. ⌜ now (out .exit) ≡ splice (now (out .entry)) 0 stopLine ⌝ }
 {
-    printing::put_stop(out);
+    trace_lines::put_stop(out);
     Progress {
         replay: held,
         used: 0,
@@ -56,7 +56,7 @@ fn registers(held: Replay, kind: u8, body: &[u8], out: &mut [u8]) -> Progress
         return stops(held, out);
     }
     Progress {
-        replay: events::kept(held, kind, body),
+        replay: trace_events::kept(held, kind, body),
         used: 3,
         written: 0,
         ended: false,
@@ -76,9 +76,9 @@ fn happens(
     ensures { λ r. ⌜ OfTurn (happening held (now (store .entry)) (now (report .entry)) (eventMeant e (now (body .entry))) (1 + length (now (body .entry)))) (now (out .entry)) r (now (store .exit)) (now (report .exit)) (now (out .exit)) ⌝ }
     ensures { λ r. ⌜ r .written ≤ 52 ⌝ }
 {
-    let kind = items::kind_of(e);
-    let a = events::happen(held, store, report, e, body);
-    let written = printing::put_line(out, kind, a.refusal, a.records, report);
+    let kind = trace_items::kind_of(e);
+    let a = trace_events::happen(held, store, report, e, body);
+    let written = trace_lines::put_line(out, kind, a.refusal, a.records, report);
     let registry = held.registry;
     let table = a.table;
     Progress {
@@ -107,7 +107,7 @@ fn known(
     ensures { λ r. ⌜ OfTurn (atItem held (now (store .entry)) (now (report .entry)) (itemOf kind (now (body .entry))) (1 + bodyLength kind)) (now (out .entry)) r (now (store .exit)) (now (report .exit)) (now (out .exit)) ⌝ }
     ensures { λ r. ⌜ (r .used ≤ 1 + bodyLength kind) × (r .written ≤ 52) ⌝ }
 {
-    let item = items::item_of(kind, body);
+    let item = trace_items::item_of(kind, body);
     match item {
         Item::Registers => registers(held, kind, body, out),
         Item::Happens(e) => happens(held, store, report, e, body, out),
@@ -129,7 +129,7 @@ pub fn turn(
         return waits(held);
     }
     let kind = input[0];
-    let body = items::body_length(kind);
+    let body = trace_items::body_length(kind);
     match body {
         Body::Unknown => stops(held, out),
         Body::Of(n) => {
@@ -187,7 +187,7 @@ pub fn ending(left: usize, out: &mut [u8]) -> usize
     if left == 0 {
         return 0;
     }
-    printing::put_stop(out)
+    trace_lines::put_stop(out)
 }
 
 // A replay at its beginning: an event before open meets the unopened table.

@@ -41,12 +41,12 @@ fn segment(t: Table, store: &mut [u8], s: &[u8]) -> Table {
     number(r.refusal as u64);
     number(r.records as u64);
     if r.records == 1 {
-        octets(octets::stretch(&report, 0, 12));
+        octets(octets::part(&report, 0, 12));
     }
     let decision = r.decision;
     let part = receiver::delivery(decision, s, store);
     number(part.len() as u64);
-    octets(octets::stretch(part, 0, 4));
+    octets(octets::part(part, 0, 4));
     io::write_all(STDOUT_FILENO, b"\n");
     r.table
 }
@@ -73,7 +73,7 @@ fn clock(t: Table, time: u32) -> Table {
     number(r.refusal as u64);
     number(r.records as u64);
     if r.records == 1 {
-        octets(octets::stretch(&report, 0, 12));
+        octets(octets::part(&report, 0, 12));
     }
     io::write_all(STDOUT_FILENO, b"\n");
     r.table
@@ -95,7 +95,7 @@ fn sending(data: &[u8], room1: usize, room: usize, k: usize) {
     number(r.refusal as u64);
     number(r.count as u64);
     number(r.length as u64);
-    octets(octets::stretch(octets::stretch(&area, 0, r.length as usize), 0, 7));
+    octets(octets::part(octets::part(&area, 0, r.length as usize), 0, 7));
     io::write_all(STDOUT_FILENO, b"\n");
 }
 
@@ -110,11 +110,11 @@ fn ten(last: usize) {
     let mut k: u8 = 0;
     while k < 9 {
         part[2] = if k == 0 { 0x49 } else { 9 - k };
-        t = segment(t, &mut store, octets::stretch(&part, 0, 231));
+        t = segment(t, &mut store, octets::part(&part, 0, 231));
         k += 1;
     }
     part[2] = 0;
-    segment(t, &mut store, octets::stretch(&part, 0, last));
+    segment(t, &mut store, octets::part(&part, 0, last));
 }
 
 fn timed() {

@@ -1,8 +1,8 @@
 use denote.Ref.{now}
-use Rattle.crossing.specs.Crossing.{decisionOf}
+use Rattle.host_numbers.specs.Crossing.{decisionOf}
 use mathlib.Core.Path.{_∙_}
 use borrow.Author.Needs.{needs}
-use Rattle.crossing.proofs.Crossing.{taken-delivery, delivery-within}
+use Rattle.host_numbers.proofs.Crossing.{taken-delivery, delivery-within}
 use Rattle.host.proofs.egrynnol_delivery.Statement.{statement}
 use Rattle.host.proofs.egrynnol_delivery.Tie as tie
 
@@ -22,7 +22,7 @@ returns c =
     let d = c .before .before .decision-of .ensures in
     let n = c .before .delivery .ensures in
     let a = c .before .before .before .before .before .args in
-    record { answered = c .located-at .ensures ∙ rw (n, d); delivered = rw (c .located-at .ensures, n, d) (taken-delivery (now (a .s)) (now (a .store)) (decisionOf (a .outcome))) }
+    record { answered = c .located-at .ensures ∙ rw (n, d); delivered = rw (c .located-at .ensures, n, d) (taken-delivery (now (a .s)) (now (a .store)) (decisionOf (a .decision))) }
 
 pub egrynnol-delivery-spec : {M : Type 1} → statement M
 egrynnol-delivery-spec =

@@ -6,8 +6,8 @@ use Rattle.host.proofs.egrynnol_segment.Tie as tie
 segment-requires : tie.Need-segment-requires
 segment-requires c κs = search needs
 
-outcome-of-requires : tie.Need-outcome-of-requires
-outcome-of-requires c κs = search needs
+c-decision-of-requires : tie.Need-c-decision-of-requires
+c-decision-of-requires c κs = search needs
 
 same-length : tie.Need-same-length
 same-length c = search needs
@@ -18,8 +18,8 @@ same-length-2 c = search needs
 returns : tie.Need-returns
 returns c =
     let r = c .before .before .before .before .before .before .segment .ensures in
-    record { answered = crosses _ _ _ (r .answered) (c .outcome-of .ensures); stored = r .stored; reported = r .reported }
+    record { answered = crosses _ _ _ (r .answered) (c .c-decision-of .ensures); stored = r .stored; reported = r .reported }
 
 pub egrynnol-segment-spec : {M : Type 1} → statement M
 egrynnol-segment-spec =
-    tie.close (tie.spec segment-requires outcome-of-requires same-length same-length-2 returns)
+    tie.close (tie.spec segment-requires c-decision-of-requires same-length same-length-2 returns)

@@ -1,7 +1,7 @@
 use mathlib.Core.Path.{refl, sym, _∙_}
 use denote.Ref.{now}
 use native.Mathlib.Omega.{arith}
-use Rattle.course.specs.Laps.{asked}
+use Rattle.loop_laps.specs.Laps.{asked}
 use Rattle.loopback.proofs.Owned.{owned}
 use Rattle.loopback.proofs.Back.{looping-unfit, looping-unsent, area-unsent, refusal-is, area-is, some-sent, kept-unmoved, kept-done}
 use borrow.Author.Needs.{needs}

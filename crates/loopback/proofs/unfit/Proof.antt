@@ -19,8 +19,8 @@ returns-3 c = simp (sym (c .before .before .before .is-sound .ensures) ∙ not-f
 returns-4 : tie.Need-returns-4
 returns-4 c = simp (sym (c .before .before .before .before .is-sound .ensures) ∙ not-false _ (c .before .before .before .if1 .left), le-ltb _ _ (c .before .before .if2 .left), le-ltb _ _ (c .before .if3 .left), lt-ltb _ _ (c .if4 .taken))
 
-has-room-requires : tie.Need-has-room-requires
-has-room-requires c κs = search needs
+has-vacant-requires : tie.Need-has-vacant-requires
+has-vacant-requires c κs = search needs
 
 returns-5 : tie.Need-returns-5
 returns-5 c =
@@ -30,7 +30,7 @@ returns-5 c =
       le-ltb _ _ (e .before .before .if2 .left),
       le-ltb _ _ (e .before .if3 .left),
       le-ltb _ _ (e .if4 .left),
-      sym (c .before .has-room .ensures) ∙ not-true _ (c .if5 .taken),
+      sym (c .before .has-vacant .ensures) ∙ not-true _ (c .if5 .taken),
     )
 
 returns-6 : tie.Need-returns-6
@@ -41,7 +41,7 @@ returns-6 c =
       le-ltb _ _ (e .before .before .if2 .left),
       le-ltb _ _ (e .before .if3 .left),
       le-ltb _ _ (e .if4 .left),
-      sym (c .before .has-room .ensures) ∙ not-false _ (c .if5 .left),
+      sym (c .before .has-vacant .ensures) ∙ not-false _ (c .if5 .left),
     )
 
 pub unfit-spec : {M : Type 1} → statement M
@@ -53,6 +53,6 @@ unfit-spec =
     returns-2
     returns-3
     returns-4
-    has-room-requires
+    has-vacant-requires
     returns-5
     returns-6)

@@ -1,14 +1,14 @@
 use mathlib.Core.Path.{_∙_, ap}
 use lib.ListN.{length}
-use Rattle.sender.proofs.Steps.{writable, total, emit-refused, emit-done, stretch-short}
+use Rattle.sender.proofs.Steps.{writable, total, emit-refused, emit-done, part-short}
 use Rattle.sender.specs.Steps.{octetsWith}
 use native.Mathlib.Omega.{arith}
 use borrow.Author.Needs.{needs}
 use Rattle.sender.proofs.emit.Statement.{statement}
 use Rattle.sender.proofs.emit.Tie as tie
 
-stretch-requires : tie.Need-stretch-requires
-stretch-requires c κs = search needs
+part-requires : tie.Need-part-requires
+part-requires c κs = search needs
 
 heading-requires : tie.Need-heading-requires
 heading-requires c κs = search needs
@@ -27,7 +27,7 @@ returns c =
     let s = c .before .before .before .before .before .before .before .before in
     let a = s .args in
     let g = c .before .before in
-    let n = total (a .kind) (a .q) (a .p) (a .h) _ _ _ (s .pre) _ _ _ (g .heading .ensures) (c .before .extra .ensures .0) (g .before .stretch .ensures) in
+    let n = total (a .kind) (a .q) (a .p) (a .h) _ _ _ (s .pre) _ _ _ (g .heading .ensures) (c .before .extra .ensures .0) (g .before .part .ensures) in
     emit-refused _ _ _ (rw n at (c .if1 .taken))
 
 write-requires : tie.Need-write-requires
@@ -44,8 +44,8 @@ cast-t22 c =
     let s = c .before .before .before .before .before .before .before .before .before .before .before .before .before in
     let a = s .args in
     let g = c .before .before .before .before .before .before in
-    let i = ap length (g .before .before .stretch .ensures) in
-    omega (arith, i, stretch-short (a .p .size) (a .p .from) (a .whole .now), s .pre .short, s .pre .size, g .extra .ensures .1)
+    let i = ap length (g .before .before .part .ensures) in
+    omega (arith, i, part-short (a .p .size) (a .p .from) (a .whole .now), s .pre .short, s .pre .size, g .extra .ensures .1)
 
 same-length : tie.Need-same-length
 same-length c = search needs
@@ -58,14 +58,14 @@ returns-2 c =
     let g = f .before .before in
     let s = g .before .before .before .before .before .before in
     let a = s .args in
-    let n = total (a .kind) (a .q) (a .p) (a .h) _ _ _ (s .pre) _ _ _ (g .heading .ensures) (f .before .extra .ensures .0) (g .before .stretch .ensures) in
-    emit-done _ _ _ _ _ (rw n at (f .if1 .left)) n (w .write .ensures ∙ rw (g .heading .ensures, g .before .stretch .ensures))
+    let n = total (a .kind) (a .q) (a .p) (a .h) _ _ _ (s .pre) _ _ _ (g .heading .ensures) (f .before .extra .ensures .0) (g .before .part .ensures) in
+    emit-done _ _ _ _ _ (rw n at (f .if1 .left)) n (w .write .ensures ∙ rw (g .heading .ensures, g .before .part .ensures))
 
 pub emit-spec : {M : Type 1} → statement M
 emit-spec =
     tie.close
     (tie.spec
-    stretch-requires
+    part-requires
     heading-requires
     extra-requires
     add-total

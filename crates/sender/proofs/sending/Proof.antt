@@ -5,7 +5,7 @@ use Rattle.rules.specs.Sending.{headerLength}
 use Rattle.rules.specs.Registry.{kindOf}
 use Rattle.rules.specs.Soundness.{sound}
 use Rattle.rules.specs.Refusals.{first}
-use Rattle.sender.specs.Steps.{requestChecks}
+use Rattle.rules.specs.Sending.{requestChecks}
 use borrow.Author.Needs.{needs}
 use Rattle.sender.proofs.sending.Statement.{statement}
 use Rattle.sender.proofs.sending.Tie as tie

@@ -11,11 +11,11 @@ use Rattle.table.proofs.search_for.Statement.{statement}
 use Rattle.table.proofs.search_for.Tie as tie
 
 abbrev Inv-loop : tie.InvT-loop
-Inv-loop k places room₀ i₀ room i =
-    (placeOf k places ≡ firstFrom (holds k) (drop i places) i) × ((lowestFree places ≡ before-or room (firstFrom isFree (drop i places) i)) × (room ≤ 16))
+Inv-loop k places room₀ i₀ vacant i =
+    (placeOf k places ≡ firstFrom (holds k) (drop i places) i) × ((lowestFree places ≡ before-or vacant (firstFrom isFree (drop i places) i)) × (vacant ≤ 16))
 
 abbrev μ-loop : tie.MeasureT-loop
-μ-loop k places room₀ i₀ room i = 16 - i
+μ-loop k places room₀ i₀ vacant i = 16 - i
 
 loop-holds : tie.Need-loop-holds Inv-loop μ-loop
 loop-holds c = (refl, (refl, omega arith))
@@ -37,7 +37,7 @@ returns c =
     record {
       inside = omega arith;
       open-at = sym (first-found (holds (a .k)) (a .t1) (l .loop .i) _ (l .loop .inv .0) (omega arith) (sym (h .has-key .ensures) ∙ c .if1 .taken));
-      has-room = λ e. absurd (true≢false e);
+      has-vacant = λ e. absurd (true≢false e);
       free-at = λ e. absurd (true≢false e);
     }
 
@@ -58,7 +58,7 @@ loop-again c =
     let a = l .before .args in (
       first-goes (holds (a .k)) (a .t1) (l .loop .i) _ (l .loop .inv .0) (omega arith) (sym (h .has-key .ensures) ∙ n .if1 .left),
       (
-        rw (c .sooner .ensures .0) (sought-more isFree (a .t1) _ (l .loop .i) (l .loop .room) (l .loop .inv .1 .0) _ (omega arith) (omega arith) refl),
+        rw (c .sooner .ensures .0) (sought-more isFree (a .t1) _ (l .loop .i) (l .loop .vacant) (l .loop .inv .1 .0) _ (omega arith) (omega arith) refl),
         c .sooner .ensures .1,
       ),
     )
@@ -72,7 +72,7 @@ returns-2 c =
     let a = l .before .args in
     rw (
       ← first-ends (holds (a .k)) (a .t1) (l .loop .i) _ (l .loop .inv .0) (omega arith),
-      ← sought-all isFree (a .t1) _ (l .loop .i) (l .loop .room) (l .loop .inv .1 .0) (omega arith),
+      ← sought-all isFree (a .t1) _ (l .loop .i) (l .loop .vacant) (l .loop .inv .1 .0) (omega arith),
     )
     (c .unfound .ensures)
 

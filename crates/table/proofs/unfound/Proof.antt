@@ -10,7 +10,7 @@ returns c =
     record {
       inside = omega (arith, c .if1 .taken);
       open-at = refl;
-      has-room = λ e. simp (ne-eqb _ _ (c .if1 .taken));
+      has-vacant = λ e. simp (ne-eqb _ _ (c .if1 .taken));
       free-at = λ e r. simp (ne-eqb _ _ (c .if1 .taken));
     }
 
@@ -19,7 +19,7 @@ returns-2 c =
     record {
       inside = omega arith;
       open-at = refl;
-      has-room = λ e. simp (eq-eqb _ _ (c .if1 .left));
+      has-vacant = λ e. simp (eq-eqb _ _ (c .if1 .left));
       free-at = λ e r. absurd (true≢false (sym r));
     }
 

@@ -1,7 +1,7 @@
 -- The item is a registry record, which has two octets, or an event.
 use denote.Ref.{now}
 use native.Mathlib.Omega.{arith}
-use Rattle.items.proofs.Reading.{item-as, registers-two, body-most}
+use Rattle.trace_items.proofs.Reading.{item-as, registers-two, body-most}
 use borrow.Author.Needs.{needs}
 use Rattle.trace.proofs.known.Statement.{statement}
 use Rattle.trace.proofs.known.Tie as tie

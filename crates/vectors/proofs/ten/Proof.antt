@@ -35,11 +35,11 @@ array-write-part-4 c = search needs
 slice-aggregate-segment : tie.Need-slice-aggregate-segment Inv-loop μ-loop
 slice-aggregate-segment c = search needs
 
-slice-aggregate-stretch : tie.Need-slice-aggregate-stretch Inv-loop μ-loop
-slice-aggregate-stretch c = search needs
+slice-aggregate-part : tie.Need-slice-aggregate-part Inv-loop μ-loop
+slice-aggregate-part c = search needs
 
-stretch-requires : tie.Need-stretch-requires Inv-loop μ-loop
-stretch-requires c κs = search needs
+part-requires : tie.Need-part-requires Inv-loop μ-loop
+part-requires c κs = search needs
 
 segment-requires : tie.Need-segment-requires Inv-loop μ-loop
 segment-requires c κs = search needs
@@ -59,11 +59,11 @@ array-write-part-5 c = search needs
 slice-aggregate-segment-2 : tie.Need-slice-aggregate-segment-2 Inv-loop μ-loop
 slice-aggregate-segment-2 c = search needs
 
-slice-aggregate-stretch-2 : tie.Need-slice-aggregate-stretch-2 Inv-loop μ-loop
-slice-aggregate-stretch-2 c = search needs
+slice-aggregate-part-2 : tie.Need-slice-aggregate-part-2 Inv-loop μ-loop
+slice-aggregate-part-2 c = search needs
 
-stretch-requires-2 : tie.Need-stretch-requires-2 Inv-loop μ-loop
-stretch-requires-2 c κs = search needs
+part-requires-2 : tie.Need-part-requires-2 Inv-loop μ-loop
+part-requires-2 c κs = search needs
 
 segment-requires-2 : tie.Need-segment-requires-2 Inv-loop μ-loop
 segment-requires-2 c κs = search needs
@@ -85,15 +85,15 @@ ten-spec =
     sub-part
     array-write-part-4
     slice-aggregate-segment
-    slice-aggregate-stretch
-    stretch-requires
+    slice-aggregate-part
+    part-requires
     segment-requires
     add-k
     loop-less
     loop-again
     array-write-part-5
     slice-aggregate-segment-2
-    slice-aggregate-stretch-2
-    stretch-requires-2
+    slice-aggregate-part-2
+    part-requires-2
     segment-requires-2
     returns)

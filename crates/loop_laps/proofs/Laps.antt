@@ -1,0 +1,61 @@
+-- One lap by what the sender's and the receiver's calls promise, and laps one after the other.
+use Prim.Native.Nat.{ℕ, suc, _+_, _-_, _≤_, _<_}
+use mathlib.Core.Path.{_≡_, sym, _∙_}
+use mathlib.Core.List.{List}
+use native.Mathlib.Omega.{arith}
+use native.Mathlib.Numerals.{add-one}
+use lib.ListN.{take}
+use Rattle.rules.specs.Receiving.{Reception, segment}
+use Rattle.rules.specs.Sending.{sending}
+use Rattle.rules.specs.Promises.{OfSegment, OfSending}
+use Rattle.rules.specs.declared.Table.{Table}
+use Rattle.rules.specs.declared.Request.{Request}
+use Rattle.rules.specs.declared.Received.{Received}
+use Rattle.rules.specs.declared.Sent.{Sent}
+use Rattle.demands.specs.Demand2.{numbered}
+use Rattle.loop_laps.specs.Laps.{Asked, Lap, lap, laps, standing, lapOf, received, OfLap, OfReceipt}
+use Rattle.loop_laps.specs.declared.Looped.{Looped}
+
+-- a segment that is a part of the area
+pub receipt : (t : Table) (store report : List ℕ) (association : ℕ) (s s′ : List ℕ) (n : ℕ) (r : Received) (store′ report′ : List ℕ)
+    → OfSegment t store report association s r store′ report′ → s ≡ s′
+    → OfReceipt (segment t store report association s′) n (record { table = r .table; decision = r .decision; length = n; number = 0 }) store′ report′
+receipt t store report association s s′ n r store′ report′ k e =
+    record {
+      answered = (λ i. record { table = k .answered i .table; decision = k .answered i .decision; length = n; number = 0 })
+          ∙ (λ i. received (segment t store report association (e i)) n);
+      stored = k .stored ∙ (λ i. segment t store report association (e i) .store);
+      reported = k .reported ∙ (λ i. segment t store report association (e i) .report);
+    }
+
+module _ (x : Asked) (k : ℕ) (t : Table) (store report : List ℕ) where
+  cut : ℕ → List ℕ → Lap
+  cut n area =
+      let r : Reception = segment t store report (x .association) (take n area) in
+      record { table = r .answer .table; store = r .store; report = r .report; area = area; decision = r .answer .decision; length = n }
+
+  pub one-lap : (area area′ : List ℕ) (q : Request) (s : Sent) (answer : Looped) (store′ report′ : List ℕ) → q ≡ numbered (x .request) k
+      → OfSending (x .table) q (x .origin) (x .destination) (x .whole) area s area′
+      → OfReceipt (segment t store report (x .association) (take (s .length) area′)) (s .length) answer store′ report′
+      → OfLap (lap x k (standing t store report area)) answer store′ report′ area′
+  unfolding cut
+  one-lap area area′ q s answer store′ report′ e sent got =
+      record {
+        lapped = (λ i. lapOf (got .answered i) (got .stored i) (got .reported i) area′)
+            ∙ (λ i. cut (sent .answered i .length) (sent .written i))
+            ∙ (λ i. cut (sending (x .table) (e i) (x .origin) (x .destination) (x .whole) area .answer .length) (sending (x .table) (e i) (x .origin) (x .destination) (x .whole) area .area));
+        number = λ i. got .answered i .number;
+      }
+
+-- the laps that are left, w in all: the next one, and none
+pub laps-next : (x : Asked) (end k : ℕ) (l l′ w : Lap) → w ≡ laps (end - k) k x l → k < end → l′ ≡ lap x k l → w ≡ laps (end - (k + 1)) (k + 1) x l′
+unfolding laps
+laps-next x end k l l′ w so under next =
+    let e : end - k ≡ suc (end - (k + 1)) = omega arith in
+    so ∙ rw (e, add-one, next)
+
+pub laps-end : (x : Asked) (end k : ℕ) (l w : Lap) → w ≡ laps (end - k) k x l → end ≤ k → l ≡ w
+unfolding laps
+laps-end x end k l w so over =
+    let e : end - k ≡ 0 = omega arith in
+    sym (so ∙ rw e)

@@ -1,0 +1,65 @@
+-- What a loopback does segment by segment: each is cut by the sender, and handed to the receiver as it is cut. The sender's table stays as it came.
+use Prim.Native.Nat.{ℕ, zero, suc}
+use mathlib.Core.Path.{_≡_}
+use mathlib.Core.List.{List}
+use lib.ListN.{take}
+use Rattle.rules.specs.Receiving.{Reception, segment}
+use Rattle.rules.specs.Sending.{Sending, sending}
+use Rattle.rules.specs.declared.Table.{Table}
+use Rattle.rules.specs.declared.Request.{Request}
+use Rattle.rules.specs.declared.Decision.{Decision}
+use Rattle.rules.specs.declared.Decision.the-variants.{Refused}
+use Rattle.demands.specs.Demand2.{numbered}
+use Rattle.loop_laps.specs.declared.Looped.{Looped}
+
+-- what is asked for: the request but for the segment number, both addresses and the data, the table that both sides use, and the association that carries it
+pub record Asked : Type 0 where
+  pub table : Table
+  pub request : Request
+  pub association : ℕ
+  pub origin : List ℕ
+  pub destination : List ℕ
+  pub whole : List ℕ
+
+abbrev pub asked : Table → Request → ℕ → List ℕ → List ℕ → List ℕ → Asked
+asked t q association o d whole = record { table = t; request = q; association = association; origin = o; destination = d; whole = whole }
+
+-- what there is between two segments: the receiver's table and areas, and of the last one its decision and its length
+pub record Lap : Type 0 where
+  pub table : Table
+  pub store : List ℕ
+  pub report : List ℕ
+  pub area : List ℕ
+  pub decision : Decision
+  pub length : ℕ
+
+-- segment k is cut, and received
+abbrev pub lap : Asked → ℕ → Lap → Lap
+lap x k l =
+    let o : Sending = sending (x .table) (numbered (x .request) k) (x .origin) (x .destination) (x .whole) (l .area) in
+    let r : Reception = segment (l .table) (l .store) (l .report) (x .association) (take (o .answer .length) (o .area)) in
+    record { table = r .answer .table; store = r .store; report = r .report; area = o .area; decision = r .answer .decision; length = o .answer .length }
+
+-- n segments from segment k on
+unfoldable pub laps : ℕ → ℕ → Asked → Lap → Lap
+laps zero k x l = l
+laps (suc n) k x l = laps n (suc k) x (lap x k l)
+
+abbrev pub standing : Table → List ℕ → List ℕ → List ℕ → Lap
+standing t store report area = record { table = t; store = store; report = report; area = area; decision = Refused; length = 0 }
+
+-- a lap, and one segment's receipt, as the code answers them
+abbrev pub lapOf : Looped → List ℕ → List ℕ → List ℕ → Lap
+lapOf l store report area = record { table = l .table; store = store; report = report; area = area; decision = l .decision; length = l .length }
+
+pub record OfLap (want : Lap) (answer : Looped) (store′ report′ area′ : List ℕ) : Type 0 where
+  pub lapped : lapOf answer store′ report′ area′ ≡ want
+  pub number : answer .number ≡ 0
+
+abbrev pub received : Reception → ℕ → Looped
+received r n = record { table = r .answer .table; decision = r .answer .decision; length = n; number = 0 }
+
+pub record OfReceipt (want : Reception) (n : ℕ) (answer : Looped) (store′ report′ : List ℕ) : Type 0 where
+  pub answered : answer ≡ received want n
+  pub stored : store′ ≡ want .store
+  pub reported : report′ ≡ want .report

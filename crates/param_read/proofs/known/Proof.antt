@@ -1,0 +1,17 @@
+use mathlib.Core.Path.{sym, _∙_}
+use borrow.Author.Tests.{eq-eqb, ne-eqb}
+use borrow.Author.Needs.{needs}
+use Rattle.param_read.proofs.known.Statement.{statement}
+use Rattle.param_read.proofs.known.Tie as tie
+
+kind-of-requires : tie.Need-kind-of-requires
+kind-of-requires c κs = search needs
+
+returns : tie.Need-returns
+returns c = simp (eq-eqb _ _ (sym (c .before .kind-of .ensures) ∙ c .if1 .taken))
+
+returns-2 : tie.Need-returns-2
+returns-2 c = simp (sym (c .before .kind-of .ensures), ne-eqb _ _ (c .if1 .left))
+
+pub known-spec : {M : Type 1} → statement M
+known-spec = tie.close (tie.spec kind-of-requires returns returns-2)

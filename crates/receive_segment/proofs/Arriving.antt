@@ -1,0 +1,226 @@
+-- The steps of the segment call, one after the other, are its rule.
+use Prim.Native.Nat.{ℕ, zero, suc, _≤_}
+use mathlib.Core.Path.{_≡_, refl, sym, ap, _∙_}
+use mathlib.Core.Bool.{Bool, true, false, not, _&&_, and-eq-true-iff, true≢false}
+use mathlib.Core.List.{List, [], _∷_, _++_}
+use native.Mathlib.Omega.{arith}
+use borrow.Author.Tests.{eqb-true}
+use lib.Dec.{ltb}
+use lib.ListN.{length, getD}
+use Rattle.rules.specs.General.{every}
+use Rattle.rules.specs.Numbers.{storeLeast, parameterMost, addressMost}
+use Rattle.rules.specs.Refusals.{Check, _when_, accepted, judged}
+use Rattle.rules.specs.Layout.{isUnsegmented, fieldsOf, readingChecks}
+use Rattle.rules.specs.Records.{recordLength}
+use Rattle.rules.specs.Places.{noPlace, freePlace, isOpen, placeOf, lowestFree, isAt, placeAt}
+use Rattle.rules.specs.Soundness.{freeSound, placeSound, sound}
+use Rattle.rules.proofs.Held.{open-is, places-sound}
+use Rattle.rules.proofs.Soundness.{open-parts}
+use Rattle.rules.specs.declared.Entry.{Entry}
+use Rattle.rules.specs.Receiving.{keyOf, informationOf, lineOf, lineAt, isStart, effectOf, Reception, receptionOf, segmentChecks, segment, unreceived}
+use Rattle.rules.proofs.Refusals.{judged-append, judged-then}
+use Rattle.rules.proofs.Reading.{parameter-short, address-short}
+use Rattle.param_read.specs.Reading.{reading}
+use Rattle.param_read.specs.declared.Reading.{Reading}
+use Rattle.param_read.specs.declared.Reading.the-variants.{Read, Refused}
+use Rattle.rules.specs.declared.Key.{Key}
+use Rattle.rules.specs.declared.Place.{Place}
+use Rattle.rules.specs.declared.Table.{Table}
+use Rattle.rules.specs.declared.Heading.{Heading}
+use Rattle.rules.specs.declared.Fields.{Fields}
+use Rattle.rules.specs.declared.Found.{Found}
+use Rattle.rules.specs.declared.Found.the-variants.{At}
+use Rattle.rules.specs.declared.Line.{Line}
+use Rattle.rules.specs.declared.Line.the-variants.{Unsegmented, Broken, Restart, Start, Final, Next}
+use Rattle.receive_lines.specs.Telling.{Tells}
+use Rattle.receive_carry.specs.Carried.{foundIf, heldIf, carriedAt, answerOf, Leads, Fit}
+use Rattle.receive_carry.proofs.Stepping.{kept}
+use Rattle.receive_carry.specs.declared.Step.{Step}
+use Rattle.receive_carry.specs.declared.Judged.{Judged}
+use Rattle.receive_segment.specs.Arrival.{refusedWith, Seeks, arrival}
+use Rattle.receive_segment.specs.declared.Sought.{Sought}
+
+pub leads-as : {o o′ : Reception} {t : Table} {at : ℕ} {r : Step} {st rp : List ℕ} → o ≡ o′ → Leads o t at r st rp → Leads o′ t at r st rp
+leads-as {o} {o′} {t} {at} {r} {st} {rp} e l =
+    record {
+      answered = l .answered ∙ ap (λ (x : Reception). x .answer) e;
+      stored = l .stored ∙ ap (λ (x : Reception). x .store) e;
+      reported = l .reported ∙ ap (λ (x : Reception). x .report) e;
+    }
+
+-- a refusal writes back what the place holds
+pub refuses : (t : Table) (store report : List ℕ) (at n : ℕ) (held : Place) (r : Step) → held ≡ getD (t .places) at noPlace → r ≡ refusedWith n held
+    → Leads (unreceived t store report n) t at r store report
+refuses t store report at n held r there e =
+    record {
+      answered = ap (answerOf t at) e ∙ rw (kept (t .places) at held there);
+      stored = refl;
+      reported = refl;
+    }
+
+-- where no sequence is open, what it would hold does not matter to the line
+line-closed : (a b x y : ℕ) (g : Heading) (n : ℕ) → lineOf false a x g n ≡ lineOf false b y g n
+unfolding lineOf
+line-closed a b x y g n = refl
+
+line-alone : (isOpen : Bool) (a x : ℕ) (g : Heading) (n : ℕ) → isUnsegmented (g .new) (g .remaining .0) ≡ true → lineOf isOpen a x g n ≡ Unsegmented
+unfolding lineOf
+line-alone isOpen a x g n e = simp e
+
+-- a line that touches places does the same by the one place that a segment is about
+module _ (t : Table) (store : List ℕ) (key : Key) (f : Fields) (octets : List ℕ) (at : ℕ) (found : Bool) (held : Place) (place vacant : Found) (p : Place)
+    (ep : place ≡ foundIf found at) (eh : p ≡ heldIf found held) where
+  effect-is : (line : Line) → (isStart line ≡ true → vacant ≡ At at)
+      → effectOf line t store key f octets (foundIf found at) (heldIf found held) (At at) ≡ effectOf line t store key f octets place p vacant
+  unfolding effectOf
+  effect-is Unsegmented free = refl
+  effect-is (Broken cause) free = rw (ep, eh)
+  effect-is Restart free = rw (ep, eh)
+  effect-is Start free = rw (free refl)
+  effect-is Final free = rw (ep, eh)
+  effect-is Next free = rw (ep, eh)
+
+saved-is : (ps : List Place) (at : ℕ) (found : Bool) (held : Place) (place : Found) → place ≡ foundIf found at → held ≡ getD ps at noPlace → placeAt ps place ≡ heldIf found held
+saved-is ps at true held place e h = rw e (sym h)
+saved-is ps at false held place e h = rw e
+
+-- a segment as its line is carried out
+abbrev pub judgedOf : Table → Fields → Sought → Place → Judged
+judgedOf t f q held = record { key = q .key; fields = f; held = held; clock = t .clock; at = q .at; found = q .found }
+
+-- what the steps find of a segment
+module _ (t : Table) (store report : List ℕ) (f : Fields) (octets : List ℕ) (q : Sought) (held : Place) (line : Line)
+    (seeks : Seeks t (q .key) (f .heading) q) (there : held ≡ getD (t .places) (q .at) noPlace)
+    (el : line ≡ lineOf (q .found) (held .remaining .0) (held .octets) (f .heading) (length octets)) (tells : Tells (q .found) (held .octets) (length octets) line) where
+  line-at : isUnsegmented (f .heading .new) (f .heading .remaining .0) ≡ false → line ≡ lineAt t (q .key) (f .heading) (length octets)
+  line-at a = el ∙ go (q .found) (seeks .points a .open-at)
+    where
+      go : (b : Bool) → placeOf (q .key) (t .places) ≡ foundIf b (q .at)
+          → lineOf b (held .remaining .0) (held .octets) (f .heading) (length octets) ≡ lineAt t (q .key) (f .heading) (length octets)
+      go true e = rw (e, there)
+      go false e = rw e (line-closed (held .remaining .0) (freePlace .remaining .0) (held .octets) (freePlace .octets) (f .heading) (length octets))
+
+  alone-line : isUnsegmented (f .heading .new) (f .heading .remaining .0) ≡ true → line ≡ Unsegmented
+  alone-line a = el ∙ line-alone (q .found) (held .remaining .0) (held .octets) (f .heading) (length octets) a
+
+  -- a line that needs vacant is that of a key that is not open
+  start-closed : isStart line ≡ true → q .found ≡ false
+  start-closed start = go line tells start
+    where
+      go : (l : Line) → Tells (q .found) (held .octets) (length octets) l → isStart l ≡ true → q .found ≡ false
+      go Unsegmented z h = absurd (true≢false (sym h))
+      go (Broken cause) z h = absurd (true≢false (sym h))
+      go Restart z h = absurd (true≢false (sym h))
+      go Start z h = z
+      go Final z h = absurd (true≢false (sym h))
+      go Next z h = absurd (true≢false (sym h))
+
+  same-room : isUnsegmented (f .heading .new) (f .heading .remaining .0) ≡ false → (isStart line && not (q .vacant)) ≡ (isStart line && not (isAt (lowestFree (t .places))))
+  same-room a = go (isStart line) refl
+    where
+      go : (b : Bool) → isStart line ≡ b → (b && not (q .vacant)) ≡ (b && not (isAt (lowestFree (t .places))))
+      go true start = ap not (seeks .points a .has-vacant (start-closed start))
+      go false start = refl
+
+  free-at : isUnsegmented (f .heading .new) (f .heading .remaining .0) ≡ false → (isStart line && not (q .vacant)) ≡ false → isStart line ≡ true → lowestFree (t .places) ≡ At (q .at)
+  free-at a e start = seeks .points a .free-at (start-closed start) (roomy (q .vacant) (simp start at e))
+    where
+      roomy : (b : Bool) → not b ≡ false → b ≡ true
+      roomy true h = refl
+      roomy false h = absurd (true≢false h)
+
+  pub is-full : (isStart line && not (q .vacant)) ≡ true → unreceived t store report 10 ≡ arrival t store report (q .key) f octets
+  unfolding arrival
+  is-full e = go (isUnsegmented (f .heading .new) (f .heading .remaining .0)) refl
+    where
+      go : (b : Bool) → isUnsegmented (f .heading .new) (f .heading .remaining .0) ≡ b → unreceived t store report 10 ≡ arrival t store report (q .key) f octets
+      go true a = absurd (true≢false (sym (simp (alone-line a) at e)))
+      go false a = simp (rw (line-at a) at (sym (same-room a) ∙ e))
+
+  pub is-carried : (isStart line && not (q .vacant)) ≡ false → carriedAt line t store report (judgedOf t f q held) octets ≡ arrival t store report (q .key) f octets
+  unfolding carriedAt arrival effectOf
+  is-carried e = go (isUnsegmented (f .heading .new) (f .heading .remaining .0)) refl
+    where
+      go : (b : Bool) → isUnsegmented (f .heading .new) (f .heading .remaining .0) ≡ b
+          → carriedAt line t store report (judgedOf t f q held) octets ≡ arrival t store report (q .key) f octets
+      go true a = rw (alone-line a, line-alone (isAt (placeOf (q .key) (t .places))) (placeAt (t .places) (placeOf (q .key) (t .places)) .remaining .0) (placeAt (t .places) (placeOf (q .key) (t .places)) .octets) (f .heading) (length octets) a)
+      go false a =
+          let place : Found = placeOf (q .key) (t .places) in
+          let same = effect-is t store (q .key) f octets (q .at) (q .found) held place (lowestFree (t .places)) (placeAt (t .places) place)
+          (seeks .points a .open-at) (saved-is (t .places) (q .at) (q .found) held place (seeks .points a .open-at) there) line (free-at a e) in
+          ap (receptionOf t report) same ∙ rw (← line-at a) (simp (sym (same-room a) ∙ e))
+
+-- a place of a sound table that is not open is free, and holds nothing
+free-zero : (registry : List Entry) (timer clock : ℕ) (p : Place) → placeSound registry timer clock p ≡ true → isOpen p ≡ false → (p .octets ≡ 0) × (p .segments ≡ 0)
+unfolding freeSound
+free-zero registry timer clock p e o =
+    let free = simp o at e in
+    let all = simp and-eq-true-iff at free in
+    (eqb-true _ _ (all .1 .0 .0 .0 .0 .0 .1), eqb-true _ _ (all .1 .0 .1))
+
+every-get : {A : Type 0} (f : A → Bool) (l : List A) (d : A) (i : ℕ) → every f l ≡ true → f d ≡ true → f (getD l i d) ≡ true
+every-get f [] d i e h = h
+every-get f (x ∷ l) d zero e h = and-eq-true-iff (f x) (every f l) .0 e .0
+every-get f (x ∷ l) d (suc i) e h = every-get f l d i (and-eq-true-iff (f x) (every f l) .0 e .1) h
+
+-- what a place of a sound table holds
+pub fit : (t : Table) (i : ℕ) → sound t ≡ true → Fit (getD (t .places) i noPlace)
+unfolding freeSound
+fit t i s =
+    go (getD (t .places) i noPlace) (every-get (placeSound (t .registry) (t .timer) (t .clock)) (t .places) noPlace i (places-sound t s) refl) (isOpen (getD (t .places) i noPlace)) refl
+  where
+    go : (p : Place) → placeSound (t .registry) (t .timer) (t .clock) p ≡ true → (b : Bool) → isOpen p ≡ b → Fit p
+    go p ok true o =
+        let all = open-parts (t .registry) (t .timer) (t .clock) p (open-is (t .registry) (t .timer) (t .clock) p ok o) in
+        let count = all .count in
+        let left = all .left in
+        record { octets = all .octets; segments = omega arith }
+    go p ok false o = let z = free-zero (t .registry) (t .timer) (t .clock) p ok o in record { octets = omega (arith, z .0); segments = omega (arith, z .1) }
+
+-- after the first checks, reading; after reading, the arrival
+abbrev pub afterReading : Table → List ℕ → List ℕ → ℕ → List ℕ → Reading → Reception
+afterReading t store report association s (Refused n) = unreceived t store report n
+afterReading t store report association s (Read f) = arrival t store report (keyOf association s f) f (informationOf s f)
+
+abbrev pub areaChecks : Table → List ℕ → List ℕ → List Check
+areaChecks t store report =
+    1 when not (sound t)
+    ∷ 2 when ltb (length store) storeLeast
+    ∷ 3 when ltb (length report) recordLength
+    ∷ []
+
+pub segment-is : (t : Table) (store report : List ℕ) (association : ℕ) (s : List ℕ) → segment t store report association s
+    ≡ judged (areaChecks t store report) (unreceived t store report) (afterReading t store report association s (reading (t .registry) s))
+unfolding segment segmentChecks reading arrival
+segment-is t store report association s =
+    let f : Fields = fieldsOf (t .registry) s in
+    let key : Key = keyOf association s f in
+    let line : Line = lineAt t key (f .heading) (length (informationOf s f)) in
+    let areas : List Check = areaChecks t store report in
+    let reads : List Check = readingChecks (t .registry) s in
+    let full : List Check = 10 when (isStart line && not (isAt (lowestFree (t .places)))) ∷ [] in
+    judged-append (areas ++ reads) full (unreceived t store report) _
+    ∙ judged-append areas reads (unreceived t store report) _
+    ∙ ap (λ (r : Reception). judged areas (unreceived t store report) r) (sym (judged-then (afterReading t store report association s) reads Refused (Read f)))
+
+-- a parameter that is read is short, and so is its address
+pub record Short (s : List ℕ) (f : Fields) : Type 0 where
+  pub parameter : length s ≤ parameterMost
+  pub address : f .length ≤ addressMost
+
+pub read-short : (t : Table) (s : List ℕ) (f : Fields) → reading (t .registry) s ≡ Read f → Short s f
+unfolding reading
+read-short t s f e = go (accepted (readingChecks (t .registry) s)) refl
+  where
+    go : (b : Bool) → accepted (readingChecks (t .registry) s) ≡ b → Short s f
+    go true a =
+        let same : fieldsOf (t .registry) s ≡ f = let same-read = simp a at e in cc in
+        record { parameter = parameter-short (t .registry) s a; address = rw same at (address-short (t .registry) s a) }
+    go false a = let z : _≡_ {A = ℕ} 0 1 = let other = simp a at e in cc in absurd (let y : ⊥ = omega arith in y)
+
+-- readings that are one have one number or the same fields
+pub read-same : (f g : Fields) → _≡_ {A = Reading} (Read f) (Read g) → f ≡ g
+read-same f g e = cc
+
+pub refused-read : (n : ℕ) (f : Fields) → _≡_ {A = Reading} (Refused n) (Read f) → ⊥
+refused-read n f e = let z : _≡_ {A = ℕ} 0 1 = cc in (let y : ⊥ = omega arith in y)

@@ -1,0 +1,44 @@
+-- A segment that has been read: the place that it is about, and what becomes of it.
+use Prim.Native.Nat.{ℕ}
+use mathlib.Core.Path.{_≡_}
+use mathlib.Core.Bool.{false}
+use mathlib.Core.List.{List}
+use lib.ListN.{length}
+use Rattle.rules.specs.Refusals.{judged}
+use Rattle.rules.specs.Layout.{isUnsegmented}
+use Rattle.rules.specs.Places.{placeOf, lowestFree, placeAt}
+use Rattle.rules.specs.Receiving.{lineAt, effectOf, takingChecks, Reception, receptionOf, unreceived}
+use Rattle.table.specs.Seeking.{Points}
+use Rattle.table.specs.declared.Search.{Search}
+use Rattle.receive_carry.specs.declared.Step.{Step}
+use Rattle.receive_segment.specs.declared.Sought.{Sought}
+use Rattle.rules.specs.declared.Key.{Key}
+use Rattle.rules.specs.declared.Place.{Place}
+use Rattle.rules.specs.declared.Table.{Table}
+use Rattle.rules.specs.declared.Heading.{Heading}
+use Rattle.rules.specs.declared.Fields.{Fields}
+use Rattle.rules.specs.declared.Found.{Found}
+use Rattle.rules.specs.declared.Line.{Line}
+use Rattle.rules.specs.declared.Decision.the-variants.{Refused}
+
+-- a refusal: the place stays as it is
+abbrev pub refusedWith : ℕ → Place → Step
+refusedWith n held = record { put = held; decision = Refused; refusal = n; records = 0 }
+
+-- the search that a parameter's place comes from
+abbrev pub searchOf : Sought → Search
+searchOf q = record { at = q .at; found = q .found; vacant = q .vacant }
+
+-- what is sought for a key; an unsegmented parameter needs no place
+pub record Seeks (t : Table) (k : Key) (g : Heading) (q : Sought) : Type 0 where
+  pub key-is : q .key ≡ k
+  pub points : isUnsegmented (g .new) (g .remaining .0) ≡ false → Points (placeOf k (t .places)) (lowestFree (t .places)) (searchOf q)
+
+-- what becomes of a segment of a key, with fields f and these octets: 10, or what its line does
+unfoldable pub arrival : Table → List ℕ → List ℕ → Key → Fields → List ℕ → Reception
+arrival t store report key f octets =
+    let place : Found = placeOf key (t .places) in
+    let vacant : Found = lowestFree (t .places) in
+    let line : Line = lineAt t key (f .heading) (length octets) in
+    judged (takingChecks line (t .places)) (unreceived t store report)
+    (receptionOf t report (effectOf line t store key f octets place (placeAt (t .places) place) vacant))

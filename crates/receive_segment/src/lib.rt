@@ -1,0 +1,212 @@
+// Segments joined: the segment call.
+use param_read::Reading;
+use receive_carry::Judged;
+use receive_carry::Step;
+use rules::Decision;
+use rules::Fields;
+use rules::Key;
+use rules::Place;
+use rules::Received;
+use rules::Table;
+ghost use mathlib.Core.Path.{_≡_};
+ghost use mathlib.Core.Bool.{true, false};
+ghost use Prim.Native.Nat.{_≤_, _<_};
+ghost use lib.ListN.{length, getD};
+ghost use Rattle.rules.specs.Numbers.{parameterMost, storeLeast, addressMost, placeCount};
+ghost use Rattle.rules.specs.Places.{noPlace, placeOf, lowestFree};
+ghost use Rattle.rules.specs.Receiving.{keyOf, informationOf, segment};
+ghost use Rattle.rules.specs.Soundness.{sound};
+ghost use Rattle.rules.specs.Promises.{OfSegment};
+ghost use Rattle.param_read.specs.Reading.{reading};
+ghost use Rattle.table.specs.Seeking.{Points};
+ghost use Rattle.receive_carry.specs.Carried.{Leads};
+ghost use Rattle.receive_segment.specs.Arrival.{refusedWith, searchOf, Seeks, arrival};
+
+// A parameter's reading, its key, and the place that it is about (see Search).
+pub struct Sought {
+    pub reading: Reading,
+    pub key: Key,
+    pub at: usize,
+    pub found: bool,
+    pub vacant: bool,
+}
+
+// The key of a segment's sequence: its originating address is copied, zero filled.
+fn key_of(association: u16, s: &[u8], f: Fields) -> Key
+    requires { ⌜ f .length ≤ addressMost ⌝ }
+    ensures { λ r. ⌜ r ≡ keyOf association (now (s .entry)) f ⌝ }
+{
+    let from = f.origin;
+    let n = f.length as usize;
+    let heading = f.heading;
+    let context = heading.context;
+    let reference = heading.reference;
+    let mut address = [0; 20];
+    octets::put(&mut address, octets::part(s, from, n));
+    Key {
+        address,
+        association,
+        context,
+        reference,
+        length: f.length,
+    }
+}
+
+// A refusal: the place stays as it is.
+fn refused(number: u8, held: Place) -> Step
+    ensures { λ r. ⌜ r ≡ refusedWith number held ⌝ }
+{
+    Step {
+        put: held,
+        decision: Decision::Refused,
+        refusal: number,
+        records: 0,
+    }
+}
+
+// A parameter that touches no place.
+fn nowhere(reading: Reading, key: Key) -> Sought
+    ensures { λ r. ⌜ r ≡ record { reading = reading; key = key; at = 0; found = false; vacant = false } ⌝ }
+{
+    Sought {
+        reading,
+        key,
+        at: 0,
+        found: false,
+        vacant: false,
+    }
+}
+
+// A parameter that was read, with the place that it is about.
+fn placed(places: [Place; 16], reading: Reading, key: Key) -> Sought
+    ensures { λ r. ⌜ (r .reading ≡ reading) × (Points (placeOf key places) (lowestFree places) (searchOf r) × (r .key ≡ key)) ⌝ }
+{
+    let search = table::search_for(places, key);
+    Sought {
+        reading,
+        key,
+        at: search.at,
+        found: search.found,
+        vacant: search.vacant,
+    }
+}
+
+// Reads a parameter, and seeks the place that it is about. An unsegmented one touches no place.
+fn seek(t: Table, association: u16, s: &[u8]) -> Sought
+    ensures { λ r. ⌜ (r .reading ≡ reading (t .registry) (now (s .entry))) × (r .at < placeCount) ⌝ }
+    ensures { λ r. ⌜ ((f : Fields) → r .reading ≡ Reading.Read f → Seeks t (keyOf association (now (s .entry)) f) (f .heading) r) ⌝ }
+{
+    let registry = t.registry;
+    let reading = param_read::read(registry, s);
+    match reading {
+        Reading::Refused(_) => {
+            let free = table::free_place();
+            let key = free.key;
+            nowhere(reading, key)
+        }
+        Reading::Read(f) => {
+            let key = key_of(association, s, f);
+            let alone = f.heading.new & (f.heading.remaining.0 == 0);
+            if alone {
+                return nowhere(reading, key);
+            }
+            let places = t.places;
+            placed(places, reading, key)
+        }
+    }
+}
+
+// A segment that has been read: judged, and carried out.
+fn arrive(
+    t: Table,
+    store: &mut [u8],
+    report: &mut [u8],
+    s: &[u8],
+    f: Fields,
+    q: Sought,
+    held: Place,
+) -> Step
+    requires { ⌜ (sound t ≡ true) × (storeLeast ≤ length (now store)) ⌝ }
+    requires { ⌜ (length (now s) ≤ parameterMost) × Seeks t (q .key) (f .heading) q ⌝ }
+    requires { ⌜ (q .at < placeCount) × (held ≡ getD (t .places) (q .at) noPlace) ⌝ }
+    ensures { λ r. ⌜ Leads (arrival t (now (store .entry)) (now (report .entry)) (q .key) f (informationOf (now (s .entry)) f)) t (q .at) r (now (store .exit)) (now (report .exit)) ⌝ }
+{
+    let from = f.information;
+    let octets = param_read::tail(s, from);
+    let heading = f.heading;
+    let remaining = held.remaining;
+    let line = receive_lines::line_of(q.found, remaining, held.octets, heading, octets.len());
+    let full = receive_lines::starts(line) & !q.vacant;
+    if full {
+        return refused(10, held);
+    }
+    let key = q.key;
+    let j = Judged {
+        key,
+        fields: f,
+        held,
+        clock: t.clock,
+        at: q.at,
+        found: q.found,
+    };
+    receive_carry::carry_out(line, j, store, report, octets)
+}
+
+// What becomes of a segment at a table, whether sound or not.
+fn step(
+    t: Table,
+    is_sound: bool,
+    store: &mut [u8],
+    report: &mut [u8],
+    association: u16,
+    s: &[u8],
+    q: Sought,
+    held: Place,
+) -> Step
+    requires { ⌜ «is_sound» ≡ sound t ⌝ }
+    requires { ⌜ (q .reading ≡ reading (t .registry) (now s)) × ((f : Fields) → q .reading ≡ Reading.Read f → Seeks t (keyOf association (now s) f) (f .heading) q) ⌝ }
+    requires { ⌜ (q .at < placeCount) × (held ≡ getD (t .places) (q .at) noPlace) ⌝ }
+    ensures { λ r. ⌜ Leads (segment t (now (store .entry)) (now (report .entry)) association (now (s .entry))) t (q .at) r (now (store .exit)) (now (report .exit)) ⌝ }
+{
+    if !is_sound {
+        return refused(1, held);
+    }
+    if store.len() < 32768 {
+        return refused(2, held);
+    }
+    if report.len() < 32 {
+        return refused(3, held);
+    }
+    let reading = q.reading;
+    match reading {
+        Reading::Refused(number) => refused(number, held),
+        Reading::Read(f) => arrive(t, store, report, s, f, q, held),
+    }
+}
+
+// A segment arrives. The table is copied once, and one place of the copy is written.
+pub fn segment(
+    t: Table,
+    store: &mut [u8],
+    report: &mut [u8],
+    association: u16,
+    s: &[u8],
+) -> Received
+    ensures { λ r. ⌜ OfSegment t (now (store .entry)) (now (report .entry)) association (now (s .entry)) r (now (store .exit)) (now (report .exit)) ⌝ }
+{
+    let mut next = t;
+    let is_sound = sound::is_sound(t);
+    let q = seek(t, association, s);
+    let at = q.at;
+    let held = next.places[at];
+    let r = step(t, is_sound, store, report, association, s, q, held);
+    let put = r.put;
+    next.places[at] = put;
+    let decision = r.decision;
+    Received {
+        table: next,
+        decision,
+        refusal: r.refusal,
+        records: r.records,
+    }
+}

@@ -1,0 +1,38 @@
+use Rattle.rules.specs.Soundness.{openSound}
+use borrow.Author.Needs.{needs}
+use Rattle.sound_open.proofs.open_sound.Statement.{statement}
+use Rattle.sound_open.proofs.open_sound.Tie as tie
+
+kind-of-requires : tie.Need-kind-of-requires
+kind-of-requires c κs = search needs
+
+cast-sum : tie.Need-cast-sum
+cast-sum c = search needs
+
+cast-sum-2 : tie.Need-cast-sum-2
+cast-sum-2 c = search needs
+
+add-sum : tie.Need-add-sum
+add-sum c = search needs
+
+address-sound-requires : tie.Need-address-sound-requires
+address-sound-requires c κs = search needs
+
+elapsed-requires : tie.Need-elapsed-requires
+elapsed-requires c κs = search needs
+
+returns : tie.Need-returns
+unfolding openSound
+returns c = rw (c .elapsed .ensures, c .before .address-sound .ensures, c .before .before .before .before .before .before .before .before .before .before .kind-of .ensures)
+
+pub open-sound-spec : {M : Type 1} → statement M
+open-sound-spec =
+    tie.close
+    (tie.spec
+    kind-of-requires
+    cast-sum
+    cast-sum-2
+    add-sum
+    address-sound-requires
+    elapsed-requires
+    returns)

@@ -1,0 +1,74 @@
+-- Block by block is the rule of whole traces: however a trace is cut into blocks, and whatever room the lines have, what is printed is what the rule prints of the whole.
+-- proofs/Whole.antt proves the four claims at the end.
+use Prim.Native.Nat.{ℕ, zero, suc, _+_, _≤_, _<_}
+use mathlib.Core.Path.{_≡_}
+use mathlib.Core.Bool.{false}
+use mathlib.Core.List.{List, [], _∷_, _++_}
+use lib.Dec.{eqb}
+use lib.ListN.{length, take, drop, replicate}
+use Rattle.rules.specs.General.{if_then_else_}
+use Rattle.rules.specs.Numbers.{storeLeast}
+use Rattle.rules.specs.Registry.{isCut}
+use Rattle.rules.specs.Opening.{unopened}
+use Rattle.rules.specs.Sweep.{reportLeast}
+use Rattle.rules.specs.Trace.{itemsOf, printed}
+use Rattle.rules.specs.Trace as trace
+use Rattle.trace_events.specs.Events.{registryOf}
+use Rattle.trace_events.specs.declared.Replay.{Replay}
+use Rattle.trace.specs.Turns.{Turned, turned, lineMost, runs, endLine}
+
+-- what the rule prints of octets, from a replay on
+abbrev pub replayFrom : trace.Replay → List ℕ → List ℕ
+replayFrom r l = printed r (itemsOf (length l) l)
+
+-- what the code holds is a replay r of the rule, but that of the registry as read only the first nine records are kept; no record of it is cut
+pub record Shows (held : Replay) (store report : List ℕ) (r : trace.Replay) : Type 0 where
+  pub is : r ≡ record { registry = r .registry; begun = held .begun; state = record { table = held .table; store = store }; report = report }
+  pub registry : registryOf held ≡ take 27 (r .registry)
+  pub most : held .length ≤ 27
+  pub area : length (held .registry) ≡ 27
+  pub whole : isCut (r .registry) ≡ false
+
+-- the lines of what was done with the front of an input, and then those of what is left of it, are the rule's, whatever comes after the input
+pub record Follows (r : trace.Replay) (input : List ℕ) (t : Turned) : Type 0 where
+  pub next : trace.Replay
+  pub shows : Shows (t .held) (t .store) (t .report) next
+  pub prints : (rest : List ℕ) → replayFrom r (input ++ rest) ≡ t .lines ++ (if t .ended then [] else replayFrom next (drop (t .used) input ++ rest))
+
+-- 1. a block: any number of turns, any room, any input
+abbrev pub ByBlocks : Type 0
+ByBlocks =
+    (n room : ℕ) (held : Replay) (store report input : List ℕ) (r : trace.Replay) → Shows held store report r → Follows r input (runs n room held store report input)
+
+-- 2. the end of the input, once a turn waits for more: what is left is nothing or a cut record
+abbrev pub AtEnd : Type 0
+AtEnd =
+    (held : Replay) (store report input : List ℕ) (r : trace.Replay) → Shows held store report r
+    → turned held store report input .used ≡ 0 → turned held store report input .ended ≡ false → replayFrom r input ≡ endLine (length input)
+
+-- 3. the beginning
+abbrev pub AtBeginning : Type 0
+AtBeginning =
+    Shows (record { registry = replicate 27 0; length = 0; table = unopened; begun = false }) (replicate storeLeast 0) (replicate reportLeast 0) trace.beginning
+
+-- the program's turns, so many at most: a block of what is there, its lines, and on with what is left; where nothing was used, with what is read next behind it, or to the end
+abbrev pub behind : (List ℕ → List (List ℕ) → List ℕ) → List ℕ → List (List ℕ) → List ℕ
+behind on left [] = endLine (length left)
+behind on left (octets ∷ reads) = on (left ++ octets) reads
+
+unfoldable pub session : ℕ → ℕ → Replay → List ℕ → List ℕ → List ℕ → List (List ℕ) → List ℕ
+session zero room held store report left reads = []
+session (suc n) room held store report left reads =
+    let t : Turned = runs (length left) room held store report left in
+    let on : List ℕ → List (List ℕ) → List ℕ = session n room (t .held) (t .store) (t .report) in
+    t .lines ++ (if t .ended then [] else if eqb (t .used) 0 then behind on left reads else on (drop (t .used) left) reads)
+
+abbrev pub allOf : List (List ℕ) → List ℕ
+allOf [] = []
+allOf (octets ∷ reads) = octets ++ allOf reads
+
+-- 4. the whole: with turns enough, and room for a line, the program prints what the rule prints of all that is read, however it comes
+abbrev pub OfAll : Type 0
+OfAll =
+    (n room : ℕ) (reads : List (List ℕ)) → lineMost ≤ room → length (allOf reads) + length reads < n
+    → session n room (record { registry = replicate 27 0; length = 0; table = unopened; begun = false }) (replicate storeLeast 0) (replicate reportLeast 0) [] reads ≡ trace.replay (allOf reads)

@@ -1,0 +1,25 @@
+use Rattle.trace_events.proofs.Calling.{as-arrived}
+use borrow.Author.Needs.{needs}
+use Rattle.trace_events.proofs.arrive.Statement.{statement}
+use Rattle.trace_events.proofs.arrive.Tie as tie
+
+part-requires : tie.Need-part-requires
+part-requires c κs = search needs
+
+segment-requires : tie.Need-segment-requires
+segment-requires c κs = search needs
+
+same-length : tie.Need-same-length
+same-length c = search needs
+
+same-length-2 : tie.Need-same-length-2
+same-length-2 c = search needs
+
+returns : tie.Need-returns
+returns c =
+    let s = c .before .before .before .before .before in
+    as-arrived _ _ _ _ _ _ _ _ _ (s .before .before .before .part .ensures) (s .segment .ensures)
+
+pub arrive-spec : {M : Type 1} → statement M
+arrive-spec =
+    tie.close (tie.spec part-requires segment-requires same-length same-length-2 returns)

@@ -1,0 +1,107 @@
+// An event of a trace, by its call; and the registry records kept for an open.
+use rules::Swept;
+use rules::Table;
+use trace_items::Event;
+ghost use mathlib.Core.Path.{_≡_};
+ghost use lib.ListN.{take, drop};
+ghost use Rattle.rules.specs.Opening.{opening};
+ghost use Rattle.trace_items.specs.Reading.{eventMeant};
+ghost use Rattle.trace_events.specs.Events.{registryOf, answerOpened, answerSwept, Arrived, OfEvent, keeping};
+
+// What a replay hands on beside the store and the report area. Of the registry as read nine records are kept: with nine an open is refused as with more.
+pub struct Replay {
+    pub registry: [u8; 27],
+    pub length: usize,
+    pub table: Table,
+    pub begun: bool,
+}
+
+// What an event answers.
+pub struct Answered {
+    pub table: Table,
+    pub refusal: u8,
+    pub records: u8,
+}
+
+// An event of an opening: every open uses the whole registry as read.
+fn open(held: Replay, timer: u32, clock: u32) -> Answered
+    ensures { λ r. ⌜ r ≡ answerOpened (opening (registryOf held) timer clock) ⌝ }
+{
+    let registry = held.registry;
+    let r = opening::opening(octets::part(&registry, 0, held.length), timer, clock);
+    let table = r.table;
+    Answered {
+        table,
+        refusal: r.refusal,
+        records: 0,
+    }
+}
+
+// The answer of the clock or of a release.
+fn swept(r: Swept) -> Answered
+    ensures { λ a. ⌜ a ≡ answerSwept r ⌝ }
+{
+    let table = r.table;
+    Answered {
+        table,
+        refusal: r.refusal,
+        records: r.records,
+    }
+}
+
+// The event of a segment: its octets are those of the body that count.
+fn arrive(
+    t: Table,
+    store: &mut [u8],
+    report: &mut [u8],
+    association: u16,
+    length: u8,
+    body: &[u8],
+) -> Answered
+    ensures { λ r. ⌜ Arrived t (now (store .entry)) (now (report .entry)) association (take length (drop 3 (now (body .entry)))) r (now (store .exit)) (now (report .exit)) ⌝ }
+{
+    let s = octets::part(body, 3, length as usize);
+    let r = receiver::segment(t, store, report, association, s);
+    let table = r.table;
+    Answered {
+        table,
+        refusal: r.refusal,
+        records: r.records,
+    }
+}
+
+// An event, by its call.
+pub fn happen(held: Replay, store: &mut [u8], report: &mut [u8], e: Event, body: &[u8]) -> Answered
+    ensures { λ r. ⌜ OfEvent held (now (store .entry)) (now (report .entry)) (eventMeant e (now (body .entry))) r (now (store .exit)) (now (report .exit)) ⌝ }
+{
+    let table = held.table;
+    match e {
+        Event::Open { timer, clock } => open(held, timer, clock),
+        Event::Segment {
+            association,
+            length,
+        } => arrive(table, store, report, association, length, body),
+        Event::Clock(time) => swept(receiver::clock(table, report, time)),
+        Event::Release(association) => swept(receiver::release(table, report, association)),
+    }
+}
+
+// A registry record is kept, unless nine are.
+pub fn kept(held: Replay, kind: u8, body: &[u8]) -> Replay
+    ensures { λ r. ⌜ r ≡ keeping held kind (now (body .entry)) ⌝ }
+{
+    if 24 < held.length {
+        return held;
+    }
+    let at = held.length;
+    let mut registry = held.registry;
+    registry[at] = kind;
+    octets::put_at(&mut registry, at + 1, body);
+    let table = held.table;
+    Replay {
+        registry,
+        length: at + 3,
+        table,
+        begun: held.begun,
+    }
+}
