@@ -1,4 +1,5 @@
 //! Says where libhost.a is: the directory in EGRYNNOL_LIB, or ../target/staticlib beside this crate.
+//! It is compiled for x86-64, so that for another machine nothing is linked (`src/remote.rs`).
 
 use std::env;
 use std::path::{Path, PathBuf};
@@ -6,7 +7,8 @@ use std::path::{Path, PathBuf};
 fn main() {
     println!("cargo:rerun-if-changed=build.rs");
     println!("cargo:rerun-if-env-changed=EGRYNNOL_LIB");
-    if env::var_os("CARGO_FEATURE_LIBRARY").is_none() {
+    let linked = env::var("CARGO_CFG_TARGET_ARCH").is_ok_and(|machine| machine == "x86_64");
+    if env::var_os("CARGO_FEATURE_LIBRARY").is_none() || !linked {
         return;
     }
     let home = env::var_os("CARGO_MANIFEST_DIR").expect("cargo sets CARGO_MANIFEST_DIR");

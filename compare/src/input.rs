@@ -105,7 +105,7 @@ pub fn hex(octets: &[u8]) -> String {
 }
 
 /// A table's octets in memory, with the padding written as 0.
-pub fn table_hex(table: &Table) -> String {
+pub fn table_octets(table: &Table) -> Vec<u8> {
     let mut octets = Vec::with_capacity(616);
     for place in &table.places {
         octets.extend(place.key.address);
@@ -122,7 +122,11 @@ pub fn table_hex(table: &Table) -> String {
     }
     octets.extend(table.timer.to_le_bytes());
     octets.extend(table.clock.to_le_bytes());
-    hex(&octets)
+    octets
+}
+
+pub fn table_hex(table: &Table) -> String {
+    hex(&table_octets(table))
 }
 
 impl fmt::Display for Input {

@@ -6,7 +6,13 @@ mod coverage;
 mod exhaustive;
 mod input;
 #[cfg(feature = "library")]
+mod layout;
+// Linked where it can be, and behind a pipe elsewhere.
+#[cfg(feature = "library")]
+#[cfg_attr(not(target_arch = "x86_64"), path = "remote.rs")]
 mod library;
+#[cfg(all(feature = "library", not(target_arch = "x86_64")))]
+mod octets;
 mod pair;
 mod random;
 mod run;

@@ -1,6 +1,6 @@
 //! Both sides at once: before anything is measured, they have to answer alike.
 
-use crate::called::Called;
+use super::called::Called;
 use crate::library::Library;
 use crate::side::Side;
 use model::*;

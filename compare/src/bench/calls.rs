@@ -2,9 +2,9 @@
 
 use std::hint::black_box;
 
-use crate::areas::{self, Areas, REGISTRY, TIMER};
+use super::areas::{self, Areas, REGISTRY, TIMER};
+use super::rounds::Work;
 use crate::random::Random;
-use crate::rounds::Work;
 use crate::side::Side;
 use model::*;
 

@@ -2,11 +2,11 @@
 
 use std::hint::black_box;
 
-use crate::areas::{self, Areas};
-use crate::called::Called;
+use super::areas::{self, Areas};
+use super::called::Called;
+use super::mix::{receive, Segments};
+use super::rounds::{beside, Figures};
 use crate::library::Library;
-use crate::mix::{receive, Segments};
-use crate::rounds::{beside, Figures};
 use crate::wire::Wire;
 use model::*;
 

@@ -3,9 +3,9 @@
 use std::hint::black_box;
 use std::ops::Range;
 
-use crate::areas::{self, Areas};
+use super::areas::{self, Areas};
+use super::rounds::Work;
 use crate::random::Random;
-use crate::rounds::Work;
 use crate::side::Side;
 use crate::wire::Wire;
 use model::*;

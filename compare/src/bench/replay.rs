@@ -6,9 +6,9 @@ use std::path::{Path, PathBuf};
 use std::process::{Command, ExitCode, Stdio};
 use std::time::Instant;
 
-use crate::areas::{self, REGISTRY};
-use crate::mix;
-use crate::rounds::{figures, Figures};
+use super::areas::{self, REGISTRY};
+use super::mix;
+use super::rounds::{figures, Figures};
 use model::*;
 
 /// After so many segments there is a clock record.

@@ -2,8 +2,8 @@
 
 use std::hint::black_box;
 
-use crate::areas;
-use crate::rounds::{beside, Figures};
+use super::areas;
+use super::rounds::{beside, Figures};
 use model::*;
 
 const CALLS: usize = 1_000;

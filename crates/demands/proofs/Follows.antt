@@ -6,13 +6,14 @@ use mathlib.Core.List.{List, [], _∷_, _++_, map, append-nil, append-assoc}
 use native.Mathlib.Omega.{arith}
 use borrow.Author.Tests.{ne-eqb}
 use lib.Dec.{eqb}
-use lib.ListN.{length}
+use lib.ListN.{length, length-append}
 use Rattle.rules.specs.General.{if_then_else_}
 use Rattle.rules.specs.Refusals.{accepted}
 use Rattle.rules.specs.Layout.{isUnsegmented, fieldsOf, readingChecks}
 use Rattle.rules.specs.Records.{delivered, lost}
 use Rattle.rules.specs.Places.{sameKey}
 use Rattle.rules.specs.Receiving.{informationOf}
+use Rattle.rules.specs.Trace.{octetsOf}
 use Rattle.rules.specs.Calls.{Call, Opens, Arrives, Ticks, Releases, Sends}
 use Rattle.rules.specs.declared.Entry.{Entry}
 use Rattle.rules.specs.declared.Key.{Key}
@@ -25,9 +26,9 @@ use Rattle.rules.proofs.Lines.{line-cases}
 use Rattle.rules.proofs.Reading.{reference-short}
 use Rattle.demands.specs.Machine.{Machine, All}
 use Rattle.demands.specs.Seen.{Seen, runOf}
-use Rattle.demands.specs.History.{Segment, Taken, Told, Cover, Deed, Begins, Takes, Passes, Ends, joined, isNone, lastRemaining, remainingOf, filed, settled, coversOf, keyIn, segmentIn, lineIn, isRestart, arrived, coversIn, leftIn, coverOf, did, didAll, coversBy, EachDeed, counted, deedsOf, after, covers, EachIn, silence, Along}
-use Rattle.demands.specs.Demand3.{Ending, ended, endingOf, endingsOf, IsLost, Ruled, Counted, Fair, Accounted, Demand3}
-use Rattle.demands.specs.Follows.{Down, CountsDown, InOrder, Orderly, takenOf, coveredOf, Rising, Complete, Unforgetting}
+use Rattle.demands.specs.History.{Segment, Taken, Told, Cover, Deed, Begins, Takes, Passes, Ends, joined, isNone, lastRemaining, remainingOf, filed, settled, coversOf, keyIn, segmentIn, lineIn, isRestart, arrived, coversIn, leftIn, coverOf, did, didAll, coversBy, recordsIn, recordsOf, recordsBy, EachDeed, counted, deedsOf, after, covers, EachIn, silence, Along}
+use Rattle.demands.specs.Demand3.{Ending, ended, endingOf, endingsOf, IsLost, Ruled, Counted, Fair, owed, Accounted, Demand3}
+use Rattle.demands.specs.Follows.{Down, CountsDown, InOrder, Orderly, Billed, takenOf, coveredOf, Rising, Complete, Unforgetting}
 use Rattle.demands.proofs.Running.{either}
 use Rattle.demands.proofs.Holding.{last-more, filed-same, filed-again}
 use Rattle.demands.proofs.Accepting.{alone-reference}
@@ -385,3 +386,56 @@ run-order h (x ∷ xs) tidy a = let r = call-order h x tidy (a .0) in (r .0, run
 
 pub orderly : (m : Machine) → Demand3 m → Orderly m
 orderly m d = record { along = λ st o cs r. run-order silence (runOf m st (Opens o ∷ cs)) tidy-none (d .along st o cs r) }
+
+-- WHAT IS BILLED IS WHAT WAS HANDED OVER
+
+abbrev made : Cover → Record
+made c = c .made
+
+made-covers : (u : Key → List Segment) (rs : List Record) → map made (coversOf u rs) ≡ rs
+made-covers u [] = refl
+made-covers u (r ∷ rs) = rw (made-covers (filed u (r .key) []) rs)
+
+made-in : (restart : Bool) (u : Key → List Segment) (k : Key) (x : Segment) (rs : List Record) → map made (coversIn restart u k x rs) ≡ rs
+made-in true u k x rs = made-covers u rs
+made-in false u k x rs = made-covers (arrived u k x) rs
+
+made-deed : (h : Told) (d : Deed) → map made (coverOf h d) ≡ recordsOf d
+made-deed h (Begins o good) = refl
+made-deed h (Takes association s rs) = made-in (isRestart (lineIn h association s)) (h .uncovered) (keyIn h association s) (segmentIn h s) rs
+made-deed h (Passes time rs) = made-covers (h .uncovered) rs
+made-deed h (Ends association rs) = made-covers (h .uncovered) rs
+
+made-append : (a b : List Cover) → map made (a ++ b) ≡ map made a ++ map made b
+made-append [] b = refl
+made-append (c ∷ a) b = rw (made-append a b)
+
+made-deeds : (h : Told) (ds : List Deed) → map made (coversBy h ds) ≡ recordsBy ds
+made-deeds h [] = refl
+made-deeds h (d ∷ ds) = made-append (coverOf h d) (coversBy (did h d) ds) ∙ rw (made-deed h d, made-deeds (did h d) ds)
+
+counted-octets : (c : Cover) (l : List Segment) → Counted c l → c .made .octets ≡ length (joined l)
+counted-octets c [] f = absurd f
+counted-octets c (x ∷ l) f = f .1
+
+-- fair covers: as many octets as are owed
+fair-owed : (cs : List Cover) → All Fair cs → octetsOf delivered (map made cs) ≡ length (owed cs)
+fair-owed [] f = refl
+fair-owed (c ∷ cs) f = go (eqb (c .made .kind) delivered) (fair-owed cs (f .1))
+  where
+    go : (b : Bool) → octetsOf delivered (map made cs) ≡ length (owed cs)
+        → (if b then c .made .octets else 0) + octetsOf delivered (map made cs) ≡ length (if b then joined (c .segments) ++ owed cs else owed cs)
+    go true e = let o = counted-octets c (c .segments) (f .0) in let l = length-append (joined (c .segments)) (owed cs) in omega arith
+    go false e = omega arith
+
+call-billed : (h : Told) (x : Seen) → Accounted h x → octetsOf delivered (recordsIn (x .answer)) ≡ length (x .handed)
+unfolding covers
+call-billed h x a =
+    rw (a .recorded, a .handed, ← made-deeds (counted h) (deedsOf (x .call) (x .answer))) (fair-owed (coversBy (counted h) (deedsOf (x .call) (x .answer))) (a .fair))
+
+run-billed : (h : Told) (xs : List Seen) → Along Accounted h xs → Along (λ (h : Told) (x : Seen). octetsOf delivered (recordsIn (x .answer)) ≡ length (x .handed)) h xs
+run-billed h [] a = tt
+run-billed h (x ∷ xs) a = (call-billed h x (a .0), run-billed (after h x) xs (a .1))
+
+pub billed : (m : Machine) → Demand3 m → Billed m
+billed m d = record { along = λ st o cs r. run-billed silence (runOf m st (Opens o ∷ cs)) (d .along st o cs r) }

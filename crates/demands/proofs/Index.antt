@@ -1,6 +1,8 @@
 -- Every theorem of the demands, by name, of the machine of the rules. The wrong machines are refuted in Rejected.antt, and the crate demanded has them of the code.
+use Prim.Native.Nat.{ℕ}
 use mathlib.Core.Path.{_≡_, refl}
 use mathlib.Core.Bool.{false}
+use mathlib.Core.List.{List}
 use Rattle.rules.specs.Calls.{State, Call, Opens, Opening}
 use Rattle.demands.specs.Machine.{Machine, ours, isOpening, InRange}
 use Rattle.demands.specs.Seen.{seenBy}
@@ -10,9 +12,10 @@ use Rattle.demands.specs.Demand3.{Demand3}
 use Rattle.demands.specs.Timer.{Timer}
 use Rattle.demands.specs.Release.{Release}
 use Rattle.demands.specs.Soundness.{Sound}
-use Rattle.demands.specs.Exactly.{Exactly}
-use Rattle.demands.specs.Follows.{Orderly, Unforgetting}
+use Rattle.demands.specs.Exactly.{Octets, Exactly}
+use Rattle.demands.specs.Follows.{Orderly, Billed, Unforgetting}
 use Rattle.demands.specs.Demanded.{Demanded, Begun}
+use Rattle.demands.specs.Replayed.{Replayed}
 use Rattle.demands.proofs.Refused as Refused
 use Rattle.demands.proofs.Sound as Sound
 use Rattle.demands.proofs.Return as Return
@@ -21,6 +24,7 @@ use Rattle.demands.proofs.Timing as Timing
 use Rattle.demands.proofs.Releasing as Releasing
 use Rattle.demands.proofs.Follows as Follows
 use Rattle.demands.proofs.Demanded as One
+use Rattle.demands.proofs.Replayed as Replay
 
 -- demand 1: every call is answered, refusals by number and in order, and a refused call changes nothing
 pub demand-1 : Demand1 ours
@@ -54,6 +58,9 @@ exactly = record { every = λ st c s q. record { answer = refl; state = refl; ha
 pub orderly : (m : Machine) → Demand3 m → Orderly m
 orderly = Follows.orderly
 
+pub billed : (m : Machine) → Demand3 m → Billed m
+billed = Follows.billed
+
 pub unforgetting : (m : Machine) → Unforgetting m
 unforgetting = Follows.unforgetting
 
@@ -63,3 +70,7 @@ of-call = One.demanded
 
 pub of-opening : (st : State) (x : Opening) → InRange (Opens x) → Begun (seenBy ours st (Opens x))
 of-opening = One.begun
+
+-- what replay prints is told by a run that meets the demands
+pub replayed : (trace : List ℕ) → Octets trace → Replayed trace
+replayed = Replay.replayed

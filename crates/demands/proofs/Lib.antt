@@ -18,4 +18,5 @@ pub mod Timing
 pub mod Releasing
 pub mod Follows
 pub mod Demanded
+pub mod Replayed
 pub mod Rejected

@@ -1,5 +1,5 @@
--- WHAT FOLLOWS. Of any machine that meets demand 3: what is delivered came in order, and an unsegmented parameter's record covers it alone. Of any machine: since the last
--- opening nothing that was accepted is forgotten by the history, or covered twice.
+-- WHAT FOLLOWS. Of any machine that meets demand 3: what is delivered came in order, an unsegmented parameter's record covers it alone, and the octets of its Delivered records, which
+-- are what is billed, are as many as were handed over. Of any machine: since the last opening nothing that was accepted is forgotten by the history, or covered twice.
 use Prim.Native.Nat.{ℕ, _+_, _<_}
 use mathlib.Core.Path.{_≡_}
 use mathlib.Core.Bool.{true, false}
@@ -8,10 +8,11 @@ use lib.ListN.{length}
 use Rattle.rules.specs.General.{if_then_else_}
 use Rattle.rules.specs.Records.{delivered}
 use Rattle.rules.specs.Places.{sameKey}
+use Rattle.rules.specs.Trace.{octetsOf}
 use Rattle.rules.specs.declared.Key.{Key}
 use Rattle.demands.specs.Machine.{Machine, All}
 use Rattle.demands.specs.Seen.{Seen}
-use Rattle.demands.specs.History.{Segment, Taken, Cover, Told, after, covers, Meets}
+use Rattle.demands.specs.History.{Segment, Taken, Cover, Told, recordsIn, after, covers, Meets}
 
 -- segments that begin with a new one and count down by one to 0
 abbrev pub Down : ℕ → List Segment → Type 0
@@ -28,6 +29,9 @@ pub record InOrder (c : Cover) : Type 0 where
 
 abbrev pub Orderly : Machine → Type 0
 Orderly m = Meets (λ (h : Told) (x : Seen). All InOrder (covers h x)) m
+
+abbrev pub Billed : Machine → Type 0
+Billed m = Meets (λ (h : Told) (x : Seen). octetsOf delivered (recordsIn (x .answer)) ≡ length (x .handed)) m
 
 -- of a key, in order: what was accepted, and what its records covered
 abbrev pub takenOf : Key → List Taken → List Segment

@@ -10,4 +10,5 @@ pub mod Demand2
 pub mod Follows
 pub mod Exactly
 pub mod Demanded
+pub mod Replayed
 pub mod Wrong

@@ -29,14 +29,14 @@ fn place_number(place: Found) -> usize
 {
     match place {
         Found::At(p) => p,
-        Found::Nothing => 16,
+        Found::Nothing => rules::PLACES,
     }
 }
 
 fn found_of(place: usize) -> Found
     ensures { λ r. ⌜ r ≡ foundAt place ⌝ }
 {
-    if place == 16 {
+    if place == rules::PLACES {
         return Found::Nothing;
     }
     Found::At(place)
@@ -108,7 +108,7 @@ pub fn located_at(decision: Decision, n: usize) -> CPart
                 source: 0,
             },
             Part::OfStore { place, length: _ } => CPart {
-                start: 2048 * place,
+                start: rules::STRETCH * place,
                 length: n,
                 source: 1,
             },

@@ -41,10 +41,10 @@ fn unfit(t: Table, store: usize, report: usize, area: usize) -> u8
     if !sound::is_sound(t) {
         return 1;
     }
-    if store < 32768 {
+    if store < rules::STORE {
         return 2;
     }
-    if report < 32 {
+    if report < rules::RECORD {
         return 3;
     }
     if area < 255 {

@@ -32,8 +32,8 @@ fn refused(number: u8) {
 
 fn looped(data: &[u8]) {
     let mut area = [0u8; 255];
-    let mut store = [0u8; 32768];
-    let mut report = [0u8; 32];
+    let mut store = [0u8; rules::STORE];
+    let mut report = [0u8; rules::RECORD];
     let r = loopback::loopback(
         fresh(),
         asked(),

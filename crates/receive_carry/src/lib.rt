@@ -43,8 +43,8 @@ fn save_at(store: &mut [u8], place: usize, at: usize, octets: &[u8])
     requires { ⌜ at + length (now octets) ≤ stretchLength ⌝ }
     ensures { λ _. ⌜ now (store .exit) ≡ saveAt (now (store .entry)) place at (now (octets .entry)) ⌝ }
 {
-    let start = 2048 * place;
-    let end = start + 2048;
+    let start = rules::STRETCH * place;
+    let end = start + rules::STRETCH;
     octets::put_at(&mut store[start..end], at, octets);
 }
 

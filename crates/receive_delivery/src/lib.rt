@@ -22,9 +22,9 @@ fn part_of(s: &[u8], start: usize, n: usize) -> &[u8]
 fn part_of_place(store: &[u8], place: usize, n: usize) -> &[u8]
     ensures { λ r. ⌜ now r ≡ partOfPlace (now (store .entry)) place n ⌝ }
 {
-    let inside = (place < 16) & (n <= 2048);
+    let inside = (place < rules::PLACES) & (n <= rules::STRETCH);
     if inside {
-        return part_of(store, 2048 * place, n);
+        return part_of(store, rules::STRETCH * place, n);
     }
     &store[..0]
 }

@@ -34,7 +34,7 @@ pub fn line_of(is_open: bool, before: Remaining, saved: u16, g: Heading, n: usiz
     if left + 1 != before.0 {
         return Line::Broken(2);
     }
-    if 2048 < (saved as usize) + n {
+    if rules::DATA < (saved as usize) + n {
         return Line::Broken(5);
     }
     if left == 0 {

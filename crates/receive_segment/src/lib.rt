@@ -171,10 +171,10 @@ fn step(
     if !is_sound {
         return refused(1, held);
     }
-    if store.len() < 32768 {
+    if store.len() < rules::STORE {
         return refused(2, held);
     }
-    if report.len() < 32 {
+    if report.len() < rules::RECORD {
         return refused(3, held);
     }
     let reading = q.reading;

@@ -64,7 +64,7 @@ fn put_loss(report: &mut [u8], n: usize, which: Test, p: Place)
     ensures { λ _. ⌜ Wrote (now (report .entry)) (recordLength * n) (recordsOctets (lossOf (causeOf which) p ∷ [])) (now (report .exit)) (recordLength * (n + 1)) ⌝ }
 {
     let r = lost(p, cause(which));
-    receive_report::put_record(report, 32 * n, r);
+    receive_report::put_record(report, rules::RECORD * n, r);
 }
 
 // Loses what is due of a table, in place order, and sets its clock. What is not due is not touched.
@@ -75,7 +75,7 @@ fn swept(t: Table, report: &mut [u8], time: u32, which: Test) -> Swept
     let mut next = t;
     let mut n: usize = 0;
     let mut i = 0;
-    while i < 16 {
+    while i < rules::PLACES {
         let p = next.places[i];
         if is_due(which, p) {
             put_loss(report, n, which, p);
@@ -111,7 +111,7 @@ fn judge(sound: bool, report: &[u8]) -> u8
     if !sound {
         return 1;
     }
-    if report.len() < 512 {
+    if report.len() < rules::REPORT {
         return 3;
     }
     0

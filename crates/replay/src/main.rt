@@ -105,8 +105,8 @@ fn step(
 }
 
 fn main() {
-    let mut store = [0u8; 32768];
-    let mut report = [0u8; 512];
+    let mut store = [0u8; rules::STORE];
+    let mut report = [0u8; rules::REPORT];
     let mut input = [0u8; 65536];
     let mut out = [0u8; 65536];
     let mut replay = trace::beginning();

@@ -27,7 +27,7 @@ fn request_refusal(sound: bool, kind: u8, q: Request, o: usize, d: usize, n: usi
     if kind == 0 {
         return 8;
     }
-    if 2048 < n {
+    if rules::DATA < n {
         return 14;
     }
     if 20 < o {

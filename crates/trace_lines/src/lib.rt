@@ -78,7 +78,7 @@ fn total(report: &[u8], n: usize, kind: u8) -> u32
     let mut sum = 0;
     let mut i = 0;
     while i < n {
-        sum += octets_in(report, 32 * i, kind);
+        sum += octets_in(report, rules::RECORD * i, kind);
         i += 1;
     }
     sum

@@ -1,0 +1,197 @@
+//! The structs of the calls as the octets that they have in C, least significant octet first.
+
+use model::*;
+
+/// What is left of a struct's octets.
+pub struct Fields<'a>(pub &'a [u8]);
+
+impl Fields<'_> {
+    fn take<const N: usize>(&mut self) -> [u8; N] {
+        let (first, rest) = self.0.split_first_chunk().expect("as many octets as the struct has");
+        self.0 = rest;
+        *first
+    }
+
+    fn octet(&mut self) -> u8 {
+        self.take::<1>()[0]
+    }
+
+    fn short(&mut self) -> u16 {
+        u16::from_le_bytes(self.take())
+    }
+
+    fn number(&mut self) -> u32 {
+        u32::from_le_bytes(self.take())
+    }
+
+    fn size(&mut self) -> usize {
+        usize::from_le_bytes(self.take())
+    }
+
+    /// Octets that belong to no field.
+    fn pass<const N: usize>(&mut self) {
+        self.take::<N>();
+    }
+}
+
+/// Fields are read in the order in which they lie, as they are written here.
+pub trait Shape {
+    fn read(fields: &mut Fields) -> Self;
+}
+
+impl Shape for Key {
+    fn read(fields: &mut Fields) -> Self {
+        Key {
+            address: fields.take(),
+            association: fields.short(),
+            context: fields.short(),
+            reference: fields.octet(),
+            length: fields.octet(),
+        }
+    }
+}
+
+impl Shape for Place {
+    fn read(fields: &mut Fields) -> Self {
+        Place {
+            key: Key::read(fields),
+            octets: fields.short(),
+            start: fields.number(),
+            mark: fields.octet(),
+            instruction: fields.octet(),
+            remaining: fields.octet(),
+            segments: fields.octet(),
+        }
+    }
+}
+
+impl Shape for Entry {
+    fn read(fields: &mut Fields) -> Self {
+        let entry = Entry { context: fields.short(), kind: fields.octet() };
+        fields.pass::<1>();
+        entry
+    }
+}
+
+impl Shape for Table {
+    fn read(fields: &mut Fields) -> Self {
+        Table {
+            places: [(); PLACES].map(|()| Place::read(fields)),
+            registry: [(); ENTRIES].map(|()| Entry::read(fields)),
+            timer: fields.number(),
+            clock: fields.number(),
+        }
+    }
+}
+
+impl Shape for Decision {
+    fn read(fields: &mut Fields) -> Self {
+        let decision = Decision {
+            place: fields.size(),
+            start: fields.size(),
+            length: fields.size(),
+            kind: fields.octet(),
+            cause: fields.octet(),
+        };
+        fields.pass::<6>();
+        decision
+    }
+}
+
+impl Shape for Opened {
+    fn read(fields: &mut Fields) -> Self {
+        let opened = Opened { table: Table::read(fields), refusal: fields.octet() };
+        fields.pass::<3>();
+        opened
+    }
+}
+
+impl Shape for Received {
+    fn read(fields: &mut Fields) -> Self {
+        let received = Received {
+            table: Table::read(fields),
+            decision: Decision::read(fields),
+            refusal: fields.octet(),
+            records: fields.octet(),
+        };
+        fields.pass::<6>();
+        received
+    }
+}
+
+impl Shape for Swept {
+    fn read(fields: &mut Fields) -> Self {
+        let swept =
+            Swept { table: Table::read(fields), refusal: fields.octet(), records: fields.octet() };
+        fields.pass::<2>();
+        swept
+    }
+}
+
+impl Shape for Part {
+    fn read(fields: &mut Fields) -> Self {
+        let part = Part { start: fields.size(), length: fields.size(), source: fields.octet() };
+        fields.pass::<7>();
+        part
+    }
+}
+
+impl Shape for Sent {
+    fn read(fields: &mut Fields) -> Self {
+        Sent { refusal: fields.octet(), count: fields.octet(), length: fields.short() }
+    }
+}
+
+pub fn decision_octets(decision: &Decision) -> Vec<u8> {
+    let mut octets =
+        [decision.place, decision.start, decision.length].map(usize::to_le_bytes).concat();
+    octets.extend([decision.kind, decision.cause, 0, 0, 0, 0, 0, 0]);
+    octets
+}
+
+pub fn request_octets(request: &Request) -> Vec<u8> {
+    let mut octets = request.context.to_le_bytes().to_vec();
+    octets.extend([request.instruction, request.reference, 0, 0, 0, 0]);
+    octets.extend([request.room1, request.room, request.number].map(usize::to_le_bytes).concat());
+    octets
+}
+
+#[cfg(test)]
+mod tests {
+    use super::*;
+    use crate::input::table_octets;
+    use crate::random::Random;
+    use crate::tables;
+    use std::mem::size_of;
+
+    /// Reads a struct of octets 0, 1, 2.. and says how many were read.
+    fn counted<T: Shape>() -> (T, usize) {
+        let octets: Vec<u8> = (0..1024).map(|i| i as u8).collect();
+        let mut fields = Fields(&octets);
+        let value = T::read(&mut fields);
+        (value, octets.len() - fields.0.len())
+    }
+
+    #[test]
+    fn every_octet_is_read() {
+        assert_eq!(counted::<Opened>().1, size_of::<Opened>());
+        assert_eq!(counted::<Received>().1, size_of::<Received>());
+        assert_eq!(counted::<Swept>().1, size_of::<Swept>());
+        assert_eq!(counted::<Part>().1, size_of::<Part>());
+        assert_eq!(counted::<Sent>().1, size_of::<Sent>());
+        assert_eq!(counted::<Swept>().0.records, (617 % 256) as u8);
+        assert_eq!(counted::<Received>().0.decision.place.to_le_bytes()[0], (616 % 256) as u8);
+    }
+
+    #[test]
+    fn there_and_back() {
+        let table = tables::sound_with(&mut Random::new(3), 8, 16);
+        let octets = table_octets(&table);
+        assert_eq!(octets.len(), size_of::<Table>());
+        assert_eq!(Table::read(&mut Fields(&octets)), table);
+        let decision = Decision { place: 1 << 40, start: 2, length: 3, kind: 4, cause: 5 };
+        assert_eq!(Decision::read(&mut Fields(&decision_octets(&decision))), decision);
+        assert_eq!(decision_octets(&decision).len(), size_of::<Decision>());
+        assert_eq!(request_octets(&Request::default()).len(), size_of::<Request>());
+    }
+}
