@@ -11,7 +11,6 @@ use Rattle.rules.specs.declared.Swept.{Swept}
 use Rattle.rules.specs.declared.Sent.{Sent}
 use Rattle.host_numbers.specs.Crossing.{decisionOf, taken}
 use Rattle.host.specs.declared.CReceived.{CReceived}
-use Rattle.host_numbers.specs.declared.CPart.{CPart}
 use Rattle.demands.specs.Seen.{Seen, seenOf}
 use Rattle.demands.specs.History.{after, silence}
 use Rattle.demands.specs.Demanded.{Met, Demanded, Begun}

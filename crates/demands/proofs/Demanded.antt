@@ -5,7 +5,7 @@ use borrow.Author.Tests.{eqb-true}
 use Rattle.rules.specs.Soundness.{sound}
 use Rattle.rules.specs.Calls.{State, Call, Opens, Opening, step}
 use Rattle.demands.specs.Machine.{ours, isOpening, InRange}
-use Rattle.demands.specs.Seen.{Seen, seenBy}
+use Rattle.demands.specs.Seen.{seenBy}
 use Rattle.demands.specs.History.{Told, deedsOf, after}
 use Rattle.demands.specs.Exactly.{ByRules}
 use Rattle.demands.specs.Demanded.{Matches, Met, Demanded, Begun}

@@ -1,26 +1,24 @@
 -- DEMAND 3 of the machine that the rules are: the state and the history that led there agree, and every call keeps them so.
 use Prim.Native.Nat.{ℕ, _+_, _≤_, _<_, _^_}
 use mathlib.Core.Path.{_≡_, refl, sym, ap, subst, _∙_}
-use mathlib.Core.Bool.{Bool, true, false, not, _&&_, and-eq-true-iff}
-use mathlib.Core.List.{List, [], _∷_, _++_, append-nil}
+use mathlib.Core.Bool.{Bool, true, false, not, and-eq-true-iff}
+use mathlib.Core.List.{List, [], _∷_, append-nil}
 use native.Mathlib.Omega.{arith}
 use borrow.Author.Tests.{ne-eqb, leb-true}
 use lib.Dec.{eqb, leb}
 use lib.ListN.{length, getD}
-use Rattle.octets.specs.Splice.{splice}
 use Rattle.rules.specs.General.{if_then_else_}
 use Rattle.rules.specs.Numbers.{elapsed}
 use Rattle.rules.specs.Refusals.{accepted, first}
 use Rattle.rules.specs.Registry.{entriesOf}
 use Rattle.rules.specs.Layout.{isUnsegmented, fieldsOf, readingChecks}
-use Rattle.rules.specs.Records.{recordsOctets, recordsFrom}
 use Rattle.rules.specs.Places.{sameKey, isOpen, noPlace, holds, placeOf, placeAt, lowestFree}
 use Rattle.rules.specs.Soundness.{placeSound, openSound, sound}
 use Rattle.rules.specs.Receiving.{keyOf, informationOf, lineOf, lineAt, Effect, effectOf, receptionOf, segmentChecks, segment}
 use Rattle.rules.specs.Delivery.{delivery}
 use Rattle.rules.specs.Sweep.{reportLeast, sweep, isDue, isOf, clockChecks, clock, releaseChecks, release, lossesBy}
 use Rattle.rules.specs.Opening.{emptyTable, unopened, openingChecks, opening}
-use Rattle.rules.specs.Calls.{State, Call, Opens, Arrives, Ticks, Releases, Sends, Opening, Arrival, Tick, Release, Dispatch, lentOf, Answer, answering, Outcome, afterOpening, afterSegment, afterSweep, step}
+use Rattle.rules.specs.Calls.{State, Call, Opens, Arrives, Ticks, Releases, Sends, Opening, Arrival, Tick, Release, Dispatch, Answer, Outcome, afterOpening, afterSegment, afterSweep, step}
 use Rattle.rules.specs.declared.Entry.{Entry}
 use Rattle.rules.specs.declared.Key.{Key}
 use Rattle.rules.specs.declared.Place.{Place}
@@ -35,14 +33,14 @@ use Rattle.rules.proofs.Records.{records-back}
 use Rattle.rules.proofs.Held.{every-at, open-is, places-sound}
 use Rattle.rules.proofs.Reading.{parameter-short}
 use Rattle.rules.proofs.Arrived.{arrived as arrived-good}
-use Rattle.demands.specs.Machine.{ours, checksOf, isOpening, parameterOf, All, InRange, Typed}
+use Rattle.demands.specs.Machine.{ours, checksOf, isOpening, parameterOf, InRange, Typed}
 use Rattle.demands.specs.Seen.{Seen, seenOf, handing, seenBy}
 use Rattle.demands.specs.Demand1.{refusedState}
-use Rattle.demands.specs.History.{Segment, Told, Deed, Takes, Passes, Ends, joined, isNone, remainingOf, coversOf, coverOf, recordsIn, recordsOf, recordsBy, settled, deedsOf, counted, beginning, did, after, covers, EachIn}
-use Rattle.demands.specs.Demand3.{Ruled, IsLost, Fair, owed, heldFrom, held, owing, Agrees, Accounted, Demand3}
+use Rattle.demands.specs.History.{Segment, Told, Deed, Passes, Ends, joined, isNone, remainingOf, coversOf, coverOf, recordsIn, recordsOf, recordsBy, settled, deedsOf, counted, beginning, did, after, covers, EachIn}
+use Rattle.demands.specs.Demand3.{Ruled, held, owing, Agrees, Accounted, Demand3}
 use Rattle.demands.proofs.Holding.{none-held, owing-none}
 use Rattle.demands.proofs.Settling.{Arrived, segmentWith, line-told, segment-done}
-use Rattle.demands.proofs.Sweeping.{Swept, sweep-places, losses-lost}
+use Rattle.demands.proofs.Sweeping.{sweep-places, losses-lost}
 use Rattle.demands.proofs.Accepting.{alone-reference, key-fits, vacant-left, clock-good, release-good}
 use Rattle.demands.proofs.Refused.{refusedOutcome, step-refused, refused-number, refused-hands}
 use Rattle.demands.proofs.Spared.{clash}

@@ -1,5 +1,5 @@
 -- Release: it loses with cause 7 exactly what is uncovered of its association.
-use Prim.Native.Nat.{ℕ, _≤_}
+use Prim.Native.Nat.{ℕ}
 use native.Mathlib.Omega.{arith}
 use mathlib.Core.Path.{_≡_, refl, ap, _∙_}
 use mathlib.Core.Logic.{_↔_}
@@ -16,7 +16,7 @@ use Rattle.rules.specs.declared.Key.{Key}
 use Rattle.rules.specs.declared.Place.{Place}
 use Rattle.rules.specs.declared.Table.{Table}
 use Rattle.rules.proofs.Keys.{same-key}
-use Rattle.demands.specs.Machine.{ours, isOpening, InRange}
+use Rattle.demands.specs.Machine.{ours, isOpening}
 use Rattle.demands.specs.Seen.{seenBy}
 use Rattle.demands.specs.History.{Segment, Told, Deed, recordsIn, deedsOf, counted, EachDeed, EachIn}
 use Rattle.demands.specs.Demand3.{Ruled, View, held, owing}

@@ -1,5 +1,4 @@
 -- What an invariant gives along every run of the machine of the rules; and what a call leaves of the history.
-use Prim.Native.Nat.{ℕ}
 use mathlib.Core.Path.{_≡_, refl, sym, ap, ap₂, subst, _∙_}
 use mathlib.Core.Bool.{Bool, true, false}
 use mathlib.Core.List.{List, [], _∷_, map}

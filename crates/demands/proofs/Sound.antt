@@ -4,7 +4,7 @@ use mathlib.Core.Path.{_≡_, refl, sym, _∙_}
 use mathlib.Core.Bool.{Bool, true, false, not, _&&_, _||_, and-eq-true-iff}
 use mathlib.Core.List.{List, [], _∷_}
 use native.Mathlib.Omega.{arith}
-use borrow.Author.Tests.{eqb-true, leb-true, leb-false, ne-eqb, le-leb, not-true, not-false}
+use borrow.Author.Tests.{eqb-true, leb-true, ne-eqb, le-leb, not-true, not-false}
 use lib.Dec.{eqb, leb}
 use lib.ListN.{length, getD, length-drop}
 use Rattle.rules.specs.General.{if_then_else_, every, everyTwo}
@@ -12,11 +12,11 @@ use Rattle.rules.specs.Numbers.{entriesMost, timerInRange, elapsed}
 use Rattle.rules.specs.Refusals.{Check, _when_, accepted, first}
 use Rattle.rules.specs.Registry.{kindOf, entriesOf, isCut, isUnused, isEntry, isUsable, entriesApart, listsRegistry}
 use Rattle.rules.specs.Layout.{isUnsegmented, contextOf, fieldsOf, readingChecks}
-use Rattle.rules.specs.Places.{noPlace, freePlace, holds, isOpen, isAt, placeOf, placeAt, putPlace, lowestFree}
-use Rattle.rules.specs.Soundness.{isZero, addressSound, openSound, freeSound, placeSound, placesApart, sound}
+use Rattle.rules.specs.Places.{noPlace, freePlace, holds, isAt, placeOf, placeAt, putPlace, lowestFree}
+use Rattle.rules.specs.Soundness.{isZero, addressSound, freeSound, placeSound, placesApart, sound}
 use Rattle.rules.specs.Opening.{emptyTable, openingChecks}
 use Rattle.rules.specs.Receiving.{keyOf, informationOf, openPlace, begun, lineOf, effectOf, segmentChecks, Reception}
-use Rattle.rules.specs.Sweep.{freedBy, isDue, sweep, Sweeping, clockChecks, releaseChecks}
+use Rattle.rules.specs.Sweep.{Sweeping, clockChecks, releaseChecks}
 use Rattle.rules.specs.Sending.{sendingChecks}
 use Rattle.rules.specs.Calls.{State, Call, Opens, Arrives, Ticks, Releases, Sends, Opening, step}
 use Rattle.rules.specs.declared.Entry.{Entry}
@@ -36,7 +36,8 @@ use Rattle.rules.proofs.Held.{every-at, open-is}
 use Rattle.rules.proofs.Arrived.{arrived}
 use Rattle.rules.proofs.Answers.{opened-by, segment-by, clock-by, release-by}
 use Rattle.rules.proofs.Lines.{line-cases}
-use Rattle.rules.proofs.Apart.{every-set, two-at, two-set, apart-new, apart-own, apart-free, every-map, freed-two}
+use Rattle.rules.proofs.Apart.{every-set, two-at, two-set, apart-new, apart-own, apart-free}
+use Rattle.rules.proofs.Sweeping.{open-place, clock-sound, release-sound}
 use Rattle.rules.proofs.Soundness.{SoundTable, sound-parts, sound-of, OpenPlace, open-parts, open-of, free-sound, filled-zero}
 use Rattle.demands.specs.Machine.{ours, checksOf, isOpening}
 use Rattle.demands.specs.Seen.{seenBy}
@@ -85,9 +86,6 @@ module _ (t : Table) (ok : SoundTable t) where
         let s = every-at (placeSound (t .registry) (t .timer) (t .clock)) ps noPlace i (ok .places) (h .0) in
         open-parts (t .registry) (t .timer) (t .clock) p (open-is (t .registry) (t .timer) (t .clock) p s (and-eq-true-iff _ _ .0 (h .1) .0))
     own-open Nothing h a = let z : _≡_ {A = ℕ} 0 1 = cc in let y : ⊥ = omega arith in absurd y
-
-open-place : (registry : List Entry) (timer clock : ℕ) (p : Place) → isOpen p ≡ true → openSound registry timer clock p ≡ true → placeSound registry timer clock p ≡ true
-open-place registry timer clock p o s = rw (o, s)
 
 not-alone : (new : Bool) (r : ℕ) → 1 ≤ r → isUnsegmented new r ≡ false
 not-alone true r h = ne-eqb r 0 (λ e. omega arith)
@@ -193,51 +191,6 @@ module _ (t : Table) (ok : SoundTable t) (association : ℕ) (s : List ℕ) (rea
             own-good t ok k place h _ refl (open-sound t association s reading _ _ _ _ some nine (o .instruction) (omega arith) (omega arith) fits (o .young));
       })
 
--- a sweep keeps a place sound where it keeps it
-sweep-sound : (test : Place → Bool) (cause time : ℕ) (t : Table) (report : List ℕ) → SoundTable t
-    → ((p : Place) → test p ≡ false → SoundIn t p → placeSound (t .registry) (t .timer) time p ≡ true) → sound (sweep test cause time t report .answer .table) ≡ true
-unfolding sweep
-sweep-sound test cause time t report ok keep =
-    sound-of _
-    (record {
-      timer = ok .timer;
-      registry = ok .registry;
-      places = every-map (placeSound (t .registry) (t .timer) (t .clock)) (placeSound (t .registry) (t .timer) time) (freedBy test) freed (t .places) (ok .places);
-      apart = freed-two test (t .places) (ok .apart);
-    })
-  where
-    freed : (p : Place) → SoundIn t p → placeSound (t .registry) (t .timer) time (freedBy test p) ≡ true
-    freed p s = go (test p) refl
-      where
-        go : (b : Bool) → test p ≡ b → placeSound (t .registry) (t .timer) time (if b then freePlace else p) ≡ true
-        go true e = free-sound (t .registry) (t .timer) time
-        go false e = keep p e s
-
--- what is not due is young at the new time
-young : (registry : List Entry) (timer clock time : ℕ) (p : Place) → isDue time timer p ≡ false
-    → placeSound registry timer clock p ≡ true → placeSound registry timer time p ≡ true
-young registry timer clock time p d s = go (isOpen p) refl
-  where
-    go : (b : Bool) → isOpen p ≡ b → placeSound registry timer time p ≡ true
-    go true o =
-        let old = open-parts registry timer clock p (open-is registry timer clock p s o) in
-        let elapsed-less = leb-false timer (elapsed time (p .start)) (simp o at d) in
-        open-place registry timer time p o
-        (open-of registry timer time p
-        (record {
-          registered = old .registered;
-          reference = old .reference;
-          instruction = old .instruction;
-          left = old .left;
-          most = old .most;
-          begun = old .begun;
-          count = old .count;
-          octets = old .octets;
-          address = old .address;
-          young = elapsed-less;
-        }))
-    go false o = simp o (simp o at s)
-
 entries-usable : (es : List Entry) → every isEntry es ≡ true → every isUsable es ≡ true
 entries-usable [] h = refl
 entries-usable (e ∷ es) h =
@@ -288,11 +241,11 @@ kept st (Arrives x) h s =
     (λ e. s)
 kept st (Ticks x) h s =
     clock-by (λ (o : Sweeping). sound (o .answer .table) ≡ true) (st .table) (x .report) (x .time)
-    (λ e. sweep-sound _ 6 (x .time) (st .table) (x .report) (sound-parts (st .table) s) (young (st .table .registry) (st .table .timer) (st .table .clock) (x .time)))
+    (λ e. clock-sound (st .table) (x .report) (x .time) s)
     (λ e. s)
 kept st (Releases x) h s =
     release-by (λ (o : Sweeping). sound (o .answer .table) ≡ true) (st .table) (x .report) (x .association)
-    (λ e. sweep-sound _ 7 (st .table .clock) (st .table) (x .report) (sound-parts (st .table) s) (λ p d a. a)) (λ e. s)
+    (λ e. release-sound (st .table) (x .report) (x .association) s) (λ e. s)
 kept st (Sends x) h s = s
 
 -- a sound table passes check 1, and no other has that number

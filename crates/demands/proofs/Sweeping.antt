@@ -8,7 +8,6 @@ use Rattle.rules.specs.Places.{sameKey, isOpen, holds}
 use Rattle.rules.specs.Sweep.{lossOf, freedBy, lossesBy}
 use Rattle.rules.specs.declared.Key.{Key}
 use Rattle.rules.specs.declared.Place.{Place}
-use Rattle.rules.specs.declared.Record.{Record}
 use Rattle.rules.proofs.Keys.{same-equal, same-self}
 use Rattle.demands.specs.Machine.{All}
 use Rattle.demands.specs.History.{Segment, filed, settled, coversOf}

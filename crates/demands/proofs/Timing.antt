@@ -1,6 +1,6 @@
 -- The timer: ages on the clock are true ages, and a clock call loses exactly what is T old.
 use Prim.Native.Nat.{ℕ, suc, _+_, _-_, _%_, _≤_, _<_, _^_}
-use mathlib.Core.Path.{_≡_, refl, sym, ap, ap₂, _∙_}
+use mathlib.Core.Path.{_≡_, refl, ap, ap₂, _∙_}
 use mathlib.Core.Logic.{_↔_}
 use mathlib.Core.Bool.{Bool, true, false, _&&_, _||_, and-eq-true-iff}
 use mathlib.Core.List.{List, [], _∷_, _++_, map}
@@ -10,7 +10,6 @@ use lib.Dec.{eqb, leb, ltb}
 use lib.ListN.{length}
 use Rattle.rules.specs.General.{if_then_else_, every, those}
 use Rattle.rules.specs.Numbers.{elapsed}
-use Rattle.rules.specs.Refusals.{accepted}
 use Rattle.rules.specs.Records.{lost}
 use Rattle.rules.specs.Places.{sameKey, isOpen, holds}
 use Rattle.rules.specs.Soundness.{placeSound, openSound, sound}
@@ -28,7 +27,7 @@ use Rattle.rules.proofs.Numbers.{elapsed-leads, elapsed-is}
 use Rattle.rules.proofs.Held.{open-is, places-sound}
 use Rattle.demands.specs.Machine.{ours, isOpening, All, InRange}
 use Rattle.demands.specs.Seen.{seenBy}
-use Rattle.demands.specs.History.{Segment, Told, Deed, Takes, Passes, Ends, filed, settled, arrived, leftIn, recordsIn, deedsOf, beginning, counted, didAll, EachDeed, EachIn, after, isRestart, keyIn, segmentIn, lineIn}
+use Rattle.demands.specs.History.{Segment, Told, Deed, Takes, Passes, Ends, filed, settled, arrived, leftIn, recordsIn, deedsOf, beginning, counted, didAll, EachDeed, EachIn, after, isRestart, lineIn}
 use Rattle.demands.specs.Demand3.{Ending, endingOf, endingsOf, TakenBy, Ruled, IsLost, View, viewOf, heldFrom, held, owing}
 use Rattle.demands.specs.Demanded.{Early}
 use Rattle.demands.specs.Timer.{lostBy, isOld, ticksAfter, Timed, Timer}
@@ -36,7 +35,7 @@ use Rattle.demands.proofs.ByLine.{line-cases}
 use Rattle.demands.proofs.Spared.{clash}
 use Rattle.demands.proofs.Accepting.{clock-good}
 use Rattle.demands.proofs.Refused.{zero-accepted}
-use Rattle.demands.proofs.Kept.{Inv, due-open, made-back, open-done, call-done, inv-opened, inv-call}
+use Rattle.demands.proofs.Kept.{Inv, due-open, made-back, call-done, inv-opened, inv-call}
 use Rattle.demands.proofs.Running.{either, meets}
 
 abbrev pub Prompt : ℕ → ℕ → (Key → List Segment) → Type 0

@@ -18,7 +18,7 @@ use Rattle.demands.specs.Machine.{Typed}
 use Rattle.demands.specs.Seen.{Seen}
 use Rattle.demands.specs.History.{Segment, Told, EachIn, after}
 use Rattle.demands.specs.Demand1.{Answered}
-use Rattle.demands.specs.Demand2.{Shipment, Sender, Sendable, IsSent, header, countIn, segmentedIn, segmentOf, sendingOf, arrivalOf, keyIn, Spares, Saves, BeginsAs, Returns, Ready, CanTake}
+use Rattle.demands.specs.Demand2.{Shipment, Sender, Sendable, IsSent, header, countIn, segmentedIn, sendingOf, arrivalOf, keyIn, Spares, Saves, BeginsAs, Returns, Ready, CanTake}
 use Rattle.demands.specs.Demand3.{Agrees, Accounted}
 use Rattle.demands.specs.Timer.{Timed}
 use Rattle.demands.specs.Release.{Released}

@@ -13,7 +13,7 @@ use Rattle.rules.specs.Registry.{kindOf}
 use Rattle.rules.specs.Records.{delivered, lost, recordOctets, recordsOctets}
 use Rattle.rules.specs.Layout.{isUnsegmented, fieldsOf, contextOctets, parameterOctets}
 use Rattle.rules.specs.Places.{freePlace, isOpen, isFree, sameOctets, firstFrom, placeOf, lowestFree, isAt, placeAt, putPlace}
-use Rattle.rules.specs.Receiving.{keyOf, informationOf, recordWith, openPlace, lineOf, Effect, effectOf, Reception, receptionOf}
+use Rattle.rules.specs.Receiving.{keyOf, informationOf, recordWith, openPlace, lineOf, Effect, effectOf, receptionOf}
 use Rattle.rules.specs.Sweep.{sweep}
 use Rattle.rules.specs.Opening.{registryWith}
 use Rattle.rules.specs.Delivery.{delivery, partOfPlace}

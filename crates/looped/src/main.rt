@@ -24,10 +24,17 @@ fn asked() -> Request {
     }
 }
 
+// Prints, and answers whether that went well; where not, that is told.
+fn print(octets: &[u8]) -> bool {
+    streams::write(STDOUT_FILENO, b"looped: cannot write", octets)
+}
+
 fn refused(number: u8) {
-    io::write_all(STDOUT_FILENO, b"refused ");
-    io::print_decimal(STDOUT_FILENO, number as u64);
-    io::write_all(STDOUT_FILENO, b"\n");
+    let mut text = [0u8; 20];
+    let n = io::decimal(number as u64, &mut text);
+    if print(b"refused ") && print(&text[..n]) {
+        print(b"\n");
+    }
 }
 
 fn looped(data: &[u8]) {
@@ -51,11 +58,17 @@ fn looped(data: &[u8]) {
     }
     let decision = r.decision;
     let last = octets::part(&area, 0, r.length as usize);
-    io::write_all(STDOUT_FILENO, receiver::delivery(decision, last, &store));
+    print(receiver::delivery(decision, last, &store));
 }
 
 fn main() {
+    if streams::misused(os::arg_count(), b"usage: looped < DATA\n") {
+        return;
+    }
     let mut data = [0u8; 2049];
-    let n = io::read_full(STDIN_FILENO, &mut data);
-    looped(octets::part(&data, 0, n));
+    let got = streams::fill(STDIN_FILENO, b"looped: cannot read", &mut data);
+    if got.failed {
+        return;
+    }
+    looped(octets::part(&data, 0, got.count));
 }

@@ -69,7 +69,7 @@ fn size(x: u8) -> usize
     x as usize
 }
 
-pub fn last_field(s: &[u8], at: usize) -> LastField
+fn last_field(s: &[u8], at: usize) -> LastField
     ensures { λ r. ⌜ r ≡ lastField (now (s .entry)) at ⌝ }
 {
     if s.len() <= at {
@@ -93,7 +93,7 @@ fn known(registry: [Entry; 8], context: Context, next: usize) -> ContextField
     ContextField::ContextIs(context, kind, next)
 }
 
-pub fn context_field(registry: [Entry; 8], s: &[u8]) -> ContextField
+fn context_field(registry: [Entry; 8], s: &[u8]) -> ContextField
     ensures { λ r. ⌜ r ≡ contextField registry (now (s .entry)) ⌝ }
 {
     if s.len() <= 0 {
@@ -111,7 +111,7 @@ pub fn context_field(registry: [Entry; 8], s: &[u8]) -> ContextField
     }
 }
 
-pub fn sequence_field(s: &[u8], at: usize) -> SequenceField
+fn sequence_field(s: &[u8], at: usize) -> SequenceField
     ensures { λ r. ⌜ r ≡ sequenceField (now (s .entry)) at ⌝ }
 {
     if s.len() <= at {
@@ -152,7 +152,7 @@ pub fn sequence_field(s: &[u8], at: usize) -> SequenceField
     }
 }
 
-pub fn address_field(s: &[u8], at: usize) -> AddressField
+fn address_field(s: &[u8], at: usize) -> AddressField
     ensures { λ r. ⌜ r ≡ addressField (now (s .entry)) at ⌝ }
 {
     if s.len() <= at {
@@ -171,7 +171,7 @@ pub fn address_field(s: &[u8], at: usize) -> AddressField
 }
 
 // Both addresses, where the kind has them: the originating one, and where the information starts.
-pub fn addresses_field(s: &[u8], kind: u8, at: usize) -> AddressesField
+fn addresses_field(s: &[u8], kind: u8, at: usize) -> AddressesField
     ensures { λ r. ⌜ r ≡ addressesField (now (s .entry)) kind at ⌝ }
 {
     if kind != 2 {

@@ -25,14 +25,14 @@ pub fn kind_of(registry: [Entry; 8], context: Context) -> u8
 }
 
 // Whether an entry is all zero.
-pub fn is_unused(e: Entry) -> bool
+fn is_unused(e: Entry) -> bool
     ensures { λ r. ⌜ r ≡ isUnused e ⌝ }
 {
     (e.kind == 0) & (e.context.0 == 0)
 }
 
 // Whether a kind octet is that of a registered context.
-pub fn is_known(kind: u8) -> bool
+fn is_known(kind: u8) -> bool
     ensures { λ r. ⌜ r ≡ (eqb kind 1 || eqb kind 2) ⌝ }
 {
     match kind {
@@ -50,7 +50,7 @@ pub fn is_entry(e: Entry) -> bool
 }
 
 // Whether two entries do not list one context.
-pub fn are_apart(d: Entry, e: Entry) -> bool
+fn are_apart(d: Entry, e: Entry) -> bool
     ensures { λ r. ⌜ r ≡ entriesApart d e ⌝ }
 {
     let unused = is_unused(d) | is_unused(e);

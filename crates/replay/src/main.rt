@@ -25,11 +25,11 @@ fn over(replay: Replay) -> Session
     }
 }
 
-// Prints the first n octets of an area, and answers whether that went well.
+// Prints the first n octets of an area, and answers whether that went well; where not, that is told.
 fn print(out: &[u8], n: usize) -> bool
     requires { ⌜ n ≤ length (now out) ⌝ }
 {
-    io::write_all(STDOUT_FILENO, &out[..n])
+    streams::write(STDOUT_FILENO, b"replay: cannot write", &out[..n])
 }
 
 // The octets from an index to another move to the front.
@@ -48,12 +48,16 @@ fn forward(input: &mut [u8], from: usize, to: usize) -> usize
 }
 
 // Reads more, past the octets that wait for the rest of their record. Where the input has ended, so does the replay.
+// Where reading failed, which is told, it ends too, with no 'stop': that line says what was found in the trace, and nothing was.
 fn refill(replay: Replay, input: &mut [u8], have: usize, out: &mut [u8]) -> Session
     requires { ⌜ (have ≤ length (now input)) × (5 ≤ length (now out)) ⌝ }
     ensures { λ r. ⌜ r .have ≤ length (now (input .entry)) ⌝ }
 {
-    let got = libc::read(STDIN_FILENO, &mut input[have..]);
-    let n = io::count(got, &input[have..]);
+    let got = streams::read(STDIN_FILENO, b"replay: cannot read", &mut input[have..]);
+    if got.failed {
+        return over(replay);
+    }
+    let n = got.count;
     if n == 0 {
         let last = trace::ending(have, out);
         print(out, last);
@@ -104,7 +108,18 @@ fn step(
     go_on(t, input, have, out)
 }
 
+// Whether there was an argument. A trace that is named and not read must not pass for an empty one.
+fn misused() -> bool {
+    streams::misused(
+        os::arg_count(),
+        b"usage: replay < TRACE\nA trace in octets on standard input; its lines on standard output. See replay(1).\n",
+    )
+}
+
 fn main() {
+    if misused() {
+        return;
+    }
     let mut store = [0u8; rules::STORE];
     let mut report = [0u8; rules::REPORT];
     let mut input = [0u8; 65536];

@@ -10,7 +10,6 @@ use Rattle.rules.specs.Receiving.{Reception, receivedAt, segmentChecks, 
 use Rattle.rules.specs.Sweep.{Sweeping, unswept, sweep, isDue, isOf, clockChecks, clock, releaseChecks, release}
 use Rattle.rules.specs.declared.Table.{Table}
 use Rattle.rules.specs.declared.Opened.{Opened}
-use Rattle.rules.specs.declared.Decision.the-variants.{Refused}
 use Rattle.rules.proofs.Refusals.{judged-by}
 
 pub opened-by : (P : Opened → Type 0) (registry : List ℕ) (timer time : ℕ)

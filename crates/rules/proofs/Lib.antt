@@ -18,3 +18,4 @@ pub mod Lines
 pub mod Apart
 pub mod Soundness
 pub mod Own
+pub mod Sweeping

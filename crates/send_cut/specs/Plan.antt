@@ -1,12 +1,12 @@
 -- Where data is cut, by the lengths of what is cut.
 use Prim.Native.Nat.{ℕ, zero, suc, _+_, _-_, _*_, _/_, _≤_, _<_}
 use mathlib.Core.Path.{_≡_}
-use mathlib.Core.Bool.{true, false, _&&_, _||_}
-use mathlib.Core.List.{List, [], _∷_}
+use mathlib.Core.Bool.{true, false}
+use mathlib.Core.List.{[], _∷_}
 use lib.Dec.{leb, ltb}
 use Rattle.rules.specs.General.{if_then_else_}
-use Rattle.rules.specs.Numbers.{segmentsMost, parameterMost}
-use Rattle.rules.specs.Refusals.{Check, _when_, judged}
+use Rattle.rules.specs.Numbers.{segmentsMost}
+use Rattle.rules.specs.Refusals.{_when_, judged}
 use Rattle.rules.specs.Layout.{hasAddresses}
 use Rattle.rules.specs.Sending.{isSegmented, firstCarries, laterCarries, countOf, cutChecks}
 use Rattle.rules.specs.declared.Request.{Request}

@@ -1,17 +1,12 @@
 -- What the sender's steps answer.
-use Prim.Native.Nat.{ℕ, _+_, _-_, _≤_, _<_}
+use Prim.Native.Nat.{ℕ, _≤_, _<_}
 use mathlib.Core.Path.{_≡_}
-use mathlib.Core.Bool.{Bool, not, _&&_, _||_}
-use mathlib.Core.List.{List, [], _∷_}
-use lib.Dec.{eqb, ltb}
+use mathlib.Core.List.{List}
 use lib.ListN.{length, take, drop}
 use Rattle.octets.specs.Splice.{splice}
-use Rattle.rules.specs.General.{if_then_else_}
-use Rattle.rules.specs.Numbers.{dataMost, addressMost, referenceMost, instructionMost}
-use Rattle.rules.specs.Refusals.{Check, _when_, judged}
+use Rattle.rules.specs.Refusals.{judged}
 use Rattle.rules.specs.Layout.{parameterOctets}
 use Rattle.rules.specs.Sending.{Sending, headerLength, headingWith, fitChecks, unsent}
-use Rattle.rules.specs.declared.Heading.{Heading}
 use Rattle.rules.specs.declared.Request.{Request}
 use Rattle.rules.specs.declared.Sent.{Sent}
 use Rattle.send_cut.specs.Plan.{Possible}

@@ -56,7 +56,7 @@ pub struct Search {
 }
 
 // Whether a place is open with a key.
-pub fn has_key(p: Place, k: Key) -> bool
+fn has_key(p: Place, k: Key) -> bool
     ensures { λ r. ⌜ r ≡ holds k p ⌝ }
 {
     if p.mark == 1 {

@@ -26,7 +26,7 @@ use Rattle.rules.proofs.Answers.{segment-by, clock-by, release-by}
 use Rattle.rules.proofs.Arrived.{arrived}
 use Rattle.trace_events.specs.Events.{replayOf, stepOf, OfEvent}
 use Rattle.trace_events.specs.declared.Replay.{Replay}
-use Rattle.trace_events.specs.declared.Answered.{Answered}
+use Rattle.rules.specs.declared.Swept.{Swept}
 use Rattle.trace_events.proofs.Replay.{the-type}
 use Rattle.trace_events.proofs.Replay.Laws.{the-laws}
 use denote.Laws.{Is}
@@ -100,6 +100,6 @@ event-fits held store report (Release association) n =
 pub places-held : (held : Replay) → Is (row the-type) held (val the-type the-laws held ∷ []) → length (held .table .places) ≡ placeCount
 places-held held g = simp length-map at (g .1 .1 .1 .1 .0 .1 .1 .0 .1 .0 .1)
 
-pub answer-fits : (held : Replay) (store report : List ℕ) (e : Event) (answer : Answered) (store′ report′ : List ℕ) → length (held .table .places) ≡ placeCount
+pub answer-fits : (held : Replay) (store report : List ℕ) (e : Event) (answer : Swept) (store′ report′ : List ℕ) → length (held .table .places) ≡ placeCount
     → OfEvent held store report e answer store′ report′ → Fits (answer .records) report′
 answer-fits held store report e answer store′ report′ n p = rw (p .records, p .reported) (event-fits held store report e n)

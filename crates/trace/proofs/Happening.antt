@@ -14,7 +14,7 @@ use Rattle.trace_items.specs.declared.Event as code
 use Rattle.trace_items.specs.declared.Event.the-variants as event
 use Rattle.trace_events.specs.Events.{replayOf, stepOf, OfEvent}
 use Rattle.trace_events.specs.declared.Replay.{Replay}
-use Rattle.trace_events.specs.declared.Answered.{Answered}
+use Rattle.rules.specs.declared.Swept.{Swept}
 use Rattle.trace.specs.Turns.{OfTurn, happening}
 
 -- the line by the kind octet is the event's; an opening makes no records, so that any report does
@@ -39,7 +39,7 @@ held-as : (held : Replay) (t t′ : Table) (b b′ : Bool) → t ≡ t′ → b 
     (record { registry = held .registry; length = held .length; table = t′; begun = held .begun || b′ })
 held-as held t t′ b b′ e f = rw (e, f)
 
-pub event-turn : (held : Replay) (store report : List ℕ) (e : code.Event) (body out : List ℕ) (kind used written : ℕ) (answer : Answered) (store′ report′ out′ : List ℕ)
+pub event-turn : (held : Replay) (store report : List ℕ) (e : code.Event) (body out : List ℕ) (kind used written : ℕ) (answer : Swept) (store′ report′ out′ : List ℕ)
     → kind ≡ kindFor e → OfEvent held store report (eventMeant e body) answer store′ report′
     → Wrote out 0 (lineFor kind (answer .refusal) (answer .records) report′) out′ written
     → OfTurn (happening held store report (eventMeant e body) used) out

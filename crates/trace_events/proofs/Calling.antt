@@ -9,9 +9,8 @@ use Rattle.rules.specs.Trace.{Event, Opening, Segment, Clock, Release, reportAf
 use Rattle.rules.specs.declared.Table.{Table}
 use Rattle.rules.specs.declared.Received.{Received}
 use Rattle.rules.specs.declared.Swept.{Swept}
-use Rattle.trace_events.specs.Events.{registryOf, replayOf, answerOpened, answerSwept, Arrived, stepOf, OfEvent}
+use Rattle.trace_events.specs.Events.{registryOf, replayOf, answerOpened, Arrived, stepOf, OfEvent}
 use Rattle.trace_events.specs.declared.Replay.{Replay}
-use Rattle.trace_events.specs.declared.Answered.{Answered}
 
 -- a segment, by the octets that its body has of it
 pub as-arrived : (t : Table) (store report : List ℕ) (association : ℕ) (s s′ : List ℕ) (r : Received) (store′ report′ : List ℕ) → s ≡ s′
@@ -28,17 +27,17 @@ as-arrived t store report association s s′ r store′ report′ e p =
     })
 
 -- what the code answers of an outcome
-abbrev answerOf : Outcome → Answered
+abbrev answerOf : Outcome → Swept
 answerOf o = record { table = o .state .table; refusal = o .answer .refusal; records = o .answer .records }
 
-module _ (held : Replay) (store report : List ℕ) (answer : Answered) where
+module _ (held : Replay) (store report : List ℕ) (answer : Swept) where
   of-outcome : (e : Event) (store′ report′ : List ℕ) → answer ≡ answerOf (stepOf held store report e) → store′ ≡ stepOf held store report e .state .store
       → report′ ≡ reportAfter (replayOf held store report) e (stepOf held store report e .answer) → OfEvent held store report e answer store′ report′
   of-outcome e store′ report′ a s r =
       record {
-        table = ap (λ (x : Answered). x .table) a;
-        refusal = ap (λ (x : Answered). x .refusal) a;
-        records = ap (λ (x : Answered). x .records) a;
+        table = ap (λ (x : Swept). x .table) a;
+        refusal = ap (λ (x : Swept). x .refusal) a;
+        records = ap (λ (x : Swept). x .records) a;
         stored = s;
         reported = r;
       }
@@ -53,12 +52,12 @@ module _ (held : Replay) (store report : List ℕ) (answer : Answered) where
   of-segment association s store′ report′ a =
       record { table = a .table; refusal = a .refusal; records = a .records; stored = a .stored; reported = a .reported }
 
-  pub of-clock : (time : ℕ) (o : Swept) (report′ : List ℕ) → OfClock (held .table) report time o report′ → answer ≡ answerSwept o
+  pub of-clock : (time : ℕ) (o : Swept) (report′ : List ℕ) → OfClock (held .table) report time o report′ → answer ≡ o
       → OfEvent held store report (Clock time) answer store report′
   unfolding step
-  of-clock time o report′ p a = of-outcome (Clock time) store report′ (a ∙ ap answerSwept (p .answered)) refl (p .reported)
+  of-clock time o report′ p a = of-outcome (Clock time) store report′ (a ∙ p .answered) refl (p .reported)
 
-  pub of-release : (association : ℕ) (o : Swept) (report′ : List ℕ) → OfRelease (held .table) report association o report′ → answer ≡ answerSwept o
+  pub of-release : (association : ℕ) (o : Swept) (report′ : List ℕ) → OfRelease (held .table) report association o report′ → answer ≡ o
       → OfEvent held store report (Release association) answer store report′
   unfolding step
-  of-release association o report′ p a = of-outcome (Release association) store report′ (a ∙ ap answerSwept (p .answered)) refl (p .reported)
+  of-release association o report′ p a = of-outcome (Release association) store report′ (a ∙ p .answered) refl (p .reported)

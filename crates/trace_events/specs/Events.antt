@@ -14,7 +14,6 @@ use Rattle.rules.specs.declared.Table.{Table}
 use Rattle.rules.specs.declared.Opened.{Opened}
 use Rattle.rules.specs.declared.Swept.{Swept}
 use Rattle.trace_events.specs.declared.Replay.{Replay}
-use Rattle.trace_events.specs.declared.Answered.{Answered}
 
 -- the registry as kept
 abbrev pub registryOf : Replay → List ℕ
@@ -25,14 +24,11 @@ abbrev pub replayOf : Replay → List ℕ → List ℕ → trace.Replay
 replayOf held store report =
     record { registry = registryOf held; begun = held .begun; state = record { table = held .table; store = store }; report = report }
 
-abbrev pub answerOpened : Opened → Answered
+abbrev pub answerOpened : Opened → Swept
 answerOpened o = record { table = o .table; refusal = o .refusal; records = 0 }
 
-abbrev pub answerSwept : Swept → Answered
-answerSwept o = record { table = o .table; refusal = o .refusal; records = o .records }
-
 -- a segment's answer, decision aside, and the areas after it
-pub record Arrived (t : Table) (store report : List ℕ) (association : ℕ) (s : List ℕ) (answer : Answered) (store′ report′ : List ℕ) : Type 0 where
+pub record Arrived (t : Table) (store report : List ℕ) (association : ℕ) (s : List ℕ) (answer : Swept) (store′ report′ : List ℕ) : Type 0 where
   pub table : answer .table ≡ segment t store report association s .answer .table
   pub refusal : answer .refusal ≡ segment t store report association s .answer .refusal
   pub records : answer .records ≡ segment t store report association s .answer .records
@@ -43,7 +39,7 @@ pub record Arrived (t : Table) (store report : List ℕ) (association : ℕ) (s 
 abbrev pub stepOf : Replay → List ℕ → List ℕ → Event → Outcome
 stepOf held store report e = let r : trace.Replay = replayOf held store report in step (r .state) (callOf r e)
 
-pub record OfEvent (held : Replay) (store report : List ℕ) (e : Event) (answer : Answered) (store′ report′ : List ℕ) : Type 0 where
+pub record OfEvent (held : Replay) (store report : List ℕ) (e : Event) (answer : Swept) (store′ report′ : List ℕ) : Type 0 where
   pub table : answer .table ≡ stepOf held store report e .state .table
   pub refusal : answer .refusal ≡ stepOf held store report e .answer .refusal
   pub records : answer .records ≡ stepOf held store report e .answer .records

@@ -6,7 +6,7 @@ ghost use mathlib.Core.Path.{_≡_};
 ghost use lib.ListN.{take, drop};
 ghost use Rattle.rules.specs.Opening.{opening};
 ghost use Rattle.trace_items.specs.Reading.{eventMeant};
-ghost use Rattle.trace_events.specs.Events.{registryOf, answerOpened, answerSwept, Arrived, OfEvent, keeping};
+ghost use Rattle.trace_events.specs.Events.{registryOf, answerOpened, Arrived, OfEvent, keeping};
 
 // What a replay hands on beside the store and the report area. Of the registry as read nine records are kept: with nine an open is refused as with more.
 pub struct Replay {
@@ -16,36 +16,17 @@ pub struct Replay {
     pub begun: bool,
 }
 
-// What an event answers.
-pub struct Answered {
-    pub table: Table,
-    pub refusal: u8,
-    pub records: u8,
-}
-
-// An event of an opening: every open uses the whole registry as read.
-fn open(held: Replay, timer: u32, clock: u32) -> Answered
+// What an event answers has the shape of a sweep's answer; an opening makes no record. Every open uses the whole registry as read.
+fn open(held: Replay, timer: u32, clock: u32) -> Swept
     ensures { λ r. ⌜ r ≡ answerOpened (opening (registryOf held) timer clock) ⌝ }
 {
     let registry = held.registry;
     let r = opening::opening(octets::part(&registry, 0, held.length), timer, clock);
     let table = r.table;
-    Answered {
+    Swept {
         table,
         refusal: r.refusal,
         records: 0,
-    }
-}
-
-// The answer of the clock or of a release.
-fn swept(r: Swept) -> Answered
-    ensures { λ a. ⌜ a ≡ answerSwept r ⌝ }
-{
-    let table = r.table;
-    Answered {
-        table,
-        refusal: r.refusal,
-        records: r.records,
     }
 }
 
@@ -57,13 +38,13 @@ fn arrive(
     association: u16,
     length: u8,
     body: &[u8],
-) -> Answered
+) -> Swept
     ensures { λ r. ⌜ Arrived t (now (store .entry)) (now (report .entry)) association (take length (drop 3 (now (body .entry)))) r (now (store .exit)) (now (report .exit)) ⌝ }
 {
     let s = octets::part(body, 3, length as usize);
     let r = receiver::segment(t, store, report, association, s);
     let table = r.table;
-    Answered {
+    Swept {
         table,
         refusal: r.refusal,
         records: r.records,
@@ -71,7 +52,7 @@ fn arrive(
 }
 
 // An event, by its call.
-pub fn happen(held: Replay, store: &mut [u8], report: &mut [u8], e: Event, body: &[u8]) -> Answered
+pub fn happen(held: Replay, store: &mut [u8], report: &mut [u8], e: Event, body: &[u8]) -> Swept
     ensures { λ r. ⌜ OfEvent held (now (store .entry)) (now (report .entry)) (eventMeant e (now (body .entry))) r (now (store .exit)) (now (report .exit)) ⌝ }
 {
     let table = held.table;
@@ -81,8 +62,8 @@ pub fn happen(held: Replay, store: &mut [u8], report: &mut [u8], e: Event, body:
             association,
             length,
         } => arrive(table, store, report, association, length, body),
-        Event::Clock(time) => swept(receiver::clock(table, report, time)),
-        Event::Release(association) => swept(receiver::release(table, report, association)),
+        Event::Clock(time) => receiver::clock(table, report, time),
+        Event::Release(association) => receiver::release(table, report, association),
     }
 }
 

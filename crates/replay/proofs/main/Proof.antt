@@ -14,56 +14,50 @@ Inv-loop store₀ report₀ input₀ out₀ replay₀ have₀ turns₀ store rep
 abbrev μ-loop : tie.MeasureT-loop
 μ-loop store₀ report₀ input₀ out₀ replay₀ have₀ turns₀ store report input out replay have turns = turns
 
--- src/main.rt:95:9
-beginning-requires : tie.Need-beginning-requires Inv-loop μ-loop
-beginning-requires c κs = search needs
+misused-requires : tie.Need-misused-requires Inv-loop μ-loop
+misused-requires c κs = search needs
 
--- src/main.rt:98:5
-loop-holds : tie.Need-loop-holds Inv-loop μ-loop
-loop-holds c = (length-replicate {A = ℕ} 32768 0, length-replicate {A = ℕ} 512 0, length-replicate {A = ℕ} 65536 0, length-replicate {A = ℕ} 65536 0, omega arith)
-
--- src/main.rt:99:33
-slice-aggregate-step : tie.Need-slice-aggregate-step Inv-loop μ-loop
-slice-aggregate-step c = search needs
-
--- src/main.rt:99:45
-slice-aggregate-step-2 : tie.Need-slice-aggregate-step-2 Inv-loop μ-loop
-slice-aggregate-step-2 c = search needs
-
--- src/main.rt:99:58
-slice-aggregate-step-3 : tie.Need-slice-aggregate-step-3 Inv-loop μ-loop
-slice-aggregate-step-3 c = search needs
-
--- src/main.rt:99:76
-slice-aggregate-step-4 : tie.Need-slice-aggregate-step-4 Inv-loop μ-loop
-slice-aggregate-step-4 c = search needs
-
--- src/main.rt:99:13
-step-requires : tie.Need-step-requires Inv-loop μ-loop
-step-requires c κs = omega arith
-
--- src/main.rt:101:13
 returns : tie.Need-returns Inv-loop μ-loop
 returns c = search needs
 
--- src/main.rt:105:9
+beginning-requires : tie.Need-beginning-requires Inv-loop μ-loop
+beginning-requires c κs = search needs
+
+loop-holds : tie.Need-loop-holds Inv-loop μ-loop
+loop-holds c = (length-replicate {A = ℕ} 32768 0, length-replicate {A = ℕ} 512 0, length-replicate {A = ℕ} 65536 0, length-replicate {A = ℕ} 65536 0, omega arith)
+
+slice-aggregate-step : tie.Need-slice-aggregate-step Inv-loop μ-loop
+slice-aggregate-step c = search needs
+
+slice-aggregate-step-2 : tie.Need-slice-aggregate-step-2 Inv-loop μ-loop
+slice-aggregate-step-2 c = search needs
+
+slice-aggregate-step-3 : tie.Need-slice-aggregate-step-3 Inv-loop μ-loop
+slice-aggregate-step-3 c = search needs
+
+slice-aggregate-step-4 : tie.Need-slice-aggregate-step-4 Inv-loop μ-loop
+slice-aggregate-step-4 c = search needs
+
+step-requires : tie.Need-step-requires Inv-loop μ-loop
+step-requires c κs = omega arith
+
+returns-2 : tie.Need-returns-2 Inv-loop μ-loop
+returns-2 c = search needs
+
 sub-turns : tie.Need-sub-turns Inv-loop μ-loop
 sub-turns c = omega arith
 
--- src/main.rt:98:5
 loop-less : tie.Need-loop-less Inv-loop μ-loop
 loop-less c = omega arith
 
--- src/main.rt:98:5
 loop-again : tie.Need-loop-again Inv-loop μ-loop
 loop-again c =
     let s = c .before .before .before .before .before .before .before in
     let l = s .before .before .before .before .before .before .loop in
     (s .step .kept .1 .0 ∙ l .inv .0, s .step .kept .1 .1 .0 ∙ l .inv .1, s .step .kept .1 .1 .1 .0 ∙ l .inv .2, s .step .kept .1 .1 .1 .1 .1 .0 ∙ l .inv .3, omega (arith, s .step .ensures, l .inv .2))
 
--- src/main.rt:90:1
-returns-2 : tie.Need-returns-2 Inv-loop μ-loop
-returns-2 c = search needs
+returns-3 : tie.Need-returns-3 Inv-loop μ-loop
+returns-3 c = search needs
 
 pub main-spec : {M : Type 1} → statement M
 main-spec =
@@ -71,6 +65,8 @@ main-spec =
     (tie.spec
     Inv-loop
     μ-loop
+    misused-requires
+    returns
     beginning-requires
     loop-holds
     slice-aggregate-step
@@ -78,8 +74,8 @@ main-spec =
     slice-aggregate-step-3
     slice-aggregate-step-4
     step-requires
-    returns
+    returns-2
     sub-turns
     loop-less
     loop-again
-    returns-2)
+    returns-3)

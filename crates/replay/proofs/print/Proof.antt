@@ -4,17 +4,17 @@ use borrow.Author.Needs.{needs}
 use Rattle.replay.proofs.print.Statement.{statement}
 use Rattle.replay.proofs.print.Tie as tie
 
--- src/main.rt:30:34
-slice-aggregate-write-all : tie.Need-slice-aggregate-write-all
-slice-aggregate-write-all c = let s = c .before .before in sym (length-take-le (s .args .n) (s .args .out .now) (s .pre))
+slice-aggregate-write : tie.Need-slice-aggregate-write
+slice-aggregate-write c = search needs
 
--- src/main.rt:30:5
-write-all-requires : tie.Need-write-all-requires
-write-all-requires c κs = search needs
+slice-aggregate-write-2 : tie.Need-slice-aggregate-write-2
+slice-aggregate-write-2 c = let s = c .before .before .before in sym (length-take-le (s .args .n) (s .args .out .now) (s .pre))
 
--- src/main.rt:27:1
+write-requires : tie.Need-write-requires
+write-requires c κs = search needs
+
 returns : tie.Need-returns
 returns c = search needs
 
 pub print-spec : {M : Type 1} → statement M
-print-spec = tie.close (tie.spec slice-aggregate-write-all write-all-requires returns)
+print-spec = tie.close (tie.spec slice-aggregate-write slice-aggregate-write-2 write-requires returns)
