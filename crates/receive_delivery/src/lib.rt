@@ -2,7 +2,8 @@
 use rules::Decision;
 use rules::Part;
 ghost use mathlib.Core.Path.{_≡_};
-ghost use Rattle.rules.specs.Delivery.{partOf, partOfPlace, delivery};
+ghost use Rattle.rules.specs.Delivery.{partOf, partOfPlace};
+ghost use Rattle.rules.specs.Promises.{OfDelivery};
 
 // So many octets of a list from a position on, or none where they are not all inside.
 fn part_of(s: &[u8], start: usize, n: usize) -> &[u8]
@@ -31,7 +32,7 @@ fn part_of_place(store: &[u8], place: usize, n: usize) -> &[u8]
 
 // What was delivered: a part of the parameter or a part of the store, according to the decision.
 pub fn delivery<'a>(decision: Decision, s: &'a [u8], store: &'a [u8]) -> &'a [u8]
-    ensures { λ r. ⌜ now r ≡ delivery decision (now (s .entry)) (now (store .entry)) ⌝ }
+    ensures { λ r. ⌜ OfDelivery decision (now (s .entry)) (now (store .entry)) (now r) ⌝ }
 {
     match decision {
         Decision::Delivered(part) => match part {

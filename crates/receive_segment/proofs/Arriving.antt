@@ -5,19 +5,17 @@ use mathlib.Core.Bool.{Bool, true, false, not, _&&_, and-eq-true-iff, true≢fal
 use mathlib.Core.List.{List, [], _∷_, _++_}
 use native.Mathlib.Omega.{arith}
 use borrow.Author.Tests.{eqb-true}
-use lib.Dec.{ltb}
 use lib.ListN.{length, getD}
 use Rattle.rules.specs.General.{every}
-use Rattle.rules.specs.Numbers.{storeLeast, parameterMost, addressMost}
-use Rattle.rules.specs.Refusals.{Check, _when_, accepted, judged}
+use Rattle.rules.specs.Numbers.{parameterMost, addressMost}
+use Rattle.rules.specs.Refusals.{Check, accepted, judged}
 use Rattle.rules.specs.Layout.{isUnsegmented, fieldsOf, readingChecks}
-use Rattle.rules.specs.Records.{recordLength}
 use Rattle.rules.specs.Places.{noPlace, freePlace, isOpen, placeOf, lowestFree, isAt, placeAt}
 use Rattle.rules.specs.Soundness.{freeSound, placeSound, sound}
 use Rattle.rules.proofs.Held.{open-is, places-sound}
 use Rattle.rules.proofs.Soundness.{open-parts}
 use Rattle.rules.specs.declared.Entry.{Entry}
-use Rattle.rules.specs.Receiving.{keyOf, informationOf, lineOf, lineAt, isStart, effectOf, Reception, receptionOf, segmentChecks, segment, unreceived}
+use Rattle.rules.specs.Receiving.{keyOf, informationOf, lineOf, lineAt, isStart, effectOf, Reception, receptionOf, lentChecks, takingChecks, segmentChecks, segment, unreceived}
 use Rattle.rules.proofs.Refusals.{judged-append, judged-then}
 use Rattle.rules.proofs.Reading.{parameter-short, address-short}
 use Rattle.param_read.specs.Reading.{reading}
@@ -86,28 +84,28 @@ saved-is ps at false held place e h = rw e
 
 -- a segment as its line is carried out
 abbrev pub judgedOf : Table → Fields → Sought → Place → Judged
-judgedOf t f q held = record { key = q .key; fields = f; held = held; clock = t .clock; at = q .at; found = q .found }
+judgedOf t f q held = record { key = q .key; fields = f; held = held; clock = t .clock; at = q .search .at; found = q .search .found }
 
 -- what the steps find of a segment
 module _ (t : Table) (store report : List ℕ) (f : Fields) (octets : List ℕ) (q : Sought) (held : Place) (line : Line)
-    (seeks : Seeks t (q .key) (f .heading) q) (there : held ≡ getD (t .places) (q .at) noPlace)
-    (el : line ≡ lineOf (q .found) (held .remaining .0) (held .octets) (f .heading) (length octets)) (tells : Tells (q .found) (held .octets) (length octets) line) where
+    (seeks : Seeks t (q .key) (f .heading) q) (there : held ≡ getD (t .places) (q .search .at) noPlace)
+    (el : line ≡ lineOf (q .search .found) (held .remaining .0) (held .octets) (f .heading) (length octets)) (tells : Tells (q .search .found) (held .octets) (length octets) line) where
   line-at : isUnsegmented (f .heading .new) (f .heading .remaining .0) ≡ false → line ≡ lineAt t (q .key) (f .heading) (length octets)
-  line-at a = el ∙ go (q .found) (seeks .points a .open-at)
+  line-at a = el ∙ go (q .search .found) (seeks .points a .open-at)
     where
-      go : (b : Bool) → placeOf (q .key) (t .places) ≡ foundIf b (q .at)
+      go : (b : Bool) → placeOf (q .key) (t .places) ≡ foundIf b (q .search .at)
           → lineOf b (held .remaining .0) (held .octets) (f .heading) (length octets) ≡ lineAt t (q .key) (f .heading) (length octets)
       go true e = rw (e, there)
       go false e = rw e (line-closed (held .remaining .0) (freePlace .remaining .0) (held .octets) (freePlace .octets) (f .heading) (length octets))
 
   alone-line : isUnsegmented (f .heading .new) (f .heading .remaining .0) ≡ true → line ≡ Unsegmented
-  alone-line a = el ∙ line-alone (q .found) (held .remaining .0) (held .octets) (f .heading) (length octets) a
+  alone-line a = el ∙ line-alone (q .search .found) (held .remaining .0) (held .octets) (f .heading) (length octets) a
 
   -- a line that needs vacant is that of a key that is not open
-  start-closed : isStart line ≡ true → q .found ≡ false
+  start-closed : isStart line ≡ true → q .search .found ≡ false
   start-closed start = go line tells start
     where
-      go : (l : Line) → Tells (q .found) (held .octets) (length octets) l → isStart l ≡ true → q .found ≡ false
+      go : (l : Line) → Tells (q .search .found) (held .octets) (length octets) l → isStart l ≡ true → q .search .found ≡ false
       go Unsegmented z h = absurd (true≢false (sym h))
       go (Broken cause) z h = absurd (true≢false (sym h))
       go Restart z h = absurd (true≢false (sym h))
@@ -115,21 +113,21 @@ module _ (t : Table) (store report : List ℕ) (f : Fields) (octets : List ℕ) 
       go Final z h = absurd (true≢false (sym h))
       go Next z h = absurd (true≢false (sym h))
 
-  same-room : isUnsegmented (f .heading .new) (f .heading .remaining .0) ≡ false → (isStart line && not (q .vacant)) ≡ (isStart line && not (isAt (lowestFree (t .places))))
+  same-room : isUnsegmented (f .heading .new) (f .heading .remaining .0) ≡ false → (isStart line && not (q .search .vacant)) ≡ (isStart line && not (isAt (lowestFree (t .places))))
   same-room a = go (isStart line) refl
     where
-      go : (b : Bool) → isStart line ≡ b → (b && not (q .vacant)) ≡ (b && not (isAt (lowestFree (t .places))))
+      go : (b : Bool) → isStart line ≡ b → (b && not (q .search .vacant)) ≡ (b && not (isAt (lowestFree (t .places))))
       go true start = ap not (seeks .points a .has-vacant (start-closed start))
       go false start = refl
 
-  free-at : isUnsegmented (f .heading .new) (f .heading .remaining .0) ≡ false → (isStart line && not (q .vacant)) ≡ false → isStart line ≡ true → lowestFree (t .places) ≡ At (q .at)
-  free-at a e start = seeks .points a .free-at (start-closed start) (roomy (q .vacant) (simp start at e))
+  free-at : isUnsegmented (f .heading .new) (f .heading .remaining .0) ≡ false → (isStart line && not (q .search .vacant)) ≡ false → isStart line ≡ true → lowestFree (t .places) ≡ At (q .search .at)
+  free-at a e start = seeks .points a .free-at (start-closed start) (roomy (q .search .vacant) (simp start at e))
     where
       roomy : (b : Bool) → not b ≡ false → b ≡ true
       roomy true h = refl
       roomy false h = absurd (true≢false h)
 
-  pub is-full : (isStart line && not (q .vacant)) ≡ true → unreceived t store report 10 ≡ arrival t store report (q .key) f octets
+  pub is-full : (isStart line && not (q .search .vacant)) ≡ true → unreceived t store report 10 ≡ arrival t store report (q .key) f octets
   unfolding arrival
   is-full e = go (isUnsegmented (f .heading .new) (f .heading .remaining .0)) refl
     where
@@ -137,7 +135,7 @@ module _ (t : Table) (store report : List ℕ) (f : Fields) (octets : List ℕ) 
       go true a = absurd (true≢false (sym (simp (alone-line a) at e)))
       go false a = simp (rw (line-at a) at (sym (same-room a) ∙ e))
 
-  pub is-carried : (isStart line && not (q .vacant)) ≡ false → carriedAt line t store report (judgedOf t f q held) octets ≡ arrival t store report (q .key) f octets
+  pub is-carried : (isStart line && not (q .search .vacant)) ≡ false → carriedAt line t store report (judgedOf t f q held) octets ≡ arrival t store report (q .key) f octets
   unfolding carriedAt arrival effectOf
   is-carried e = go (isUnsegmented (f .heading .new) (f .heading .remaining .0)) refl
     where
@@ -146,8 +144,8 @@ module _ (t : Table) (store report : List ℕ) (f : Fields) (octets : List ℕ) 
       go true a = rw (alone-line a, line-alone (isAt (placeOf (q .key) (t .places))) (placeAt (t .places) (placeOf (q .key) (t .places)) .remaining .0) (placeAt (t .places) (placeOf (q .key) (t .places)) .octets) (f .heading) (length octets) a)
       go false a =
           let place : Found = placeOf (q .key) (t .places) in
-          let same = effect-is t store (q .key) f octets (q .at) (q .found) held place (lowestFree (t .places)) (placeAt (t .places) place)
-          (seeks .points a .open-at) (saved-is (t .places) (q .at) (q .found) held place (seeks .points a .open-at) there) line (free-at a e) in
+          let same = effect-is t store (q .key) f octets (q .search .at) (q .search .found) held place (lowestFree (t .places)) (placeAt (t .places) place)
+          (seeks .points a .open-at) (saved-is (t .places) (q .search .at) (q .search .found) held place (seeks .points a .open-at) there) line (free-at a e) in
           ap (receptionOf t report) same ∙ rw (← line-at a) (simp (sym (same-room a) ∙ e))
 
 -- a place of a sound table that is not open is free, and holds nothing
@@ -182,23 +180,16 @@ abbrev pub afterReading : Table → List ℕ → List ℕ → ℕ → List ℕ �
 afterReading t store report association s (Refused n) = unreceived t store report n
 afterReading t store report association s (Read f) = arrival t store report (keyOf association s f) f (informationOf s f)
 
-abbrev pub areaChecks : Table → List ℕ → List ℕ → List Check
-areaChecks t store report =
-    1 when not (sound t)
-    ∷ 2 when ltb (length store) storeLeast
-    ∷ 3 when ltb (length report) recordLength
-    ∷ []
-
 pub segment-is : (t : Table) (store report : List ℕ) (association : ℕ) (s : List ℕ) → segment t store report association s
-    ≡ judged (areaChecks t store report) (unreceived t store report) (afterReading t store report association s (reading (t .registry) s))
+    ≡ judged (lentChecks (sound t) (length store) (length report)) (unreceived t store report) (afterReading t store report association s (reading (t .registry) s))
 unfolding segment segmentChecks reading arrival
 segment-is t store report association s =
     let f : Fields = fieldsOf (t .registry) s in
     let key : Key = keyOf association s f in
     let line : Line = lineAt t key (f .heading) (length (informationOf s f)) in
-    let areas : List Check = areaChecks t store report in
+    let areas : List Check = lentChecks (sound t) (length store) (length report) in
     let reads : List Check = readingChecks (t .registry) s in
-    let full : List Check = 10 when (isStart line && not (isAt (lowestFree (t .places)))) ∷ [] in
+    let full : List Check = takingChecks line (t .places) in
     judged-append (areas ++ reads) full (unreceived t store report) _
     ∙ judged-append areas reads (unreceived t store report) _
     ∙ ap (λ (r : Reception). judged areas (unreceived t store report) r) (sym (judged-then (afterReading t store report association s) reads Refused (Read f)))

@@ -9,7 +9,6 @@ use Rattle.rules.specs.Layout.{isUnsegmented}
 use Rattle.rules.specs.Places.{placeOf, lowestFree, placeAt}
 use Rattle.rules.specs.Receiving.{lineAt, effectOf, takingChecks, Reception, receptionOf, unreceived}
 use Rattle.table.specs.Seeking.{Points}
-use Rattle.table.specs.declared.Search.{Search}
 use Rattle.receive_carry.specs.declared.Step.{Step}
 use Rattle.receive_segment.specs.declared.Sought.{Sought}
 use Rattle.rules.specs.declared.Key.{Key}
@@ -25,14 +24,10 @@ use Rattle.rules.specs.declared.Decision.the-variants.{Refused}
 abbrev pub refusedWith : ℕ → Place → Step
 refusedWith n held = record { put = held; decision = Refused; refusal = n; records = 0 }
 
--- the search that a parameter's place comes from
-abbrev pub searchOf : Sought → Search
-searchOf q = record { at = q .at; found = q .found; vacant = q .vacant }
-
 -- what is sought for a key; an unsegmented parameter needs no place
 pub record Seeks (t : Table) (k : Key) (g : Heading) (q : Sought) : Type 0 where
   pub key-is : q .key ≡ k
-  pub points : isUnsegmented (g .new) (g .remaining .0) ≡ false → Points (placeOf k (t .places)) (lowestFree (t .places)) (searchOf q)
+  pub points : isUnsegmented (g .new) (g .remaining .0) ≡ false → Points (placeOf k (t .places)) (lowestFree (t .places)) (q .search)
 
 -- what becomes of a segment of a key, with fields f and these octets: 10, or what its line does
 unfoldable pub arrival : Table → List ℕ → List ℕ → Key → Fields → List ℕ → Reception

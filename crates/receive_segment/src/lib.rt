@@ -8,6 +8,7 @@ use rules::Key;
 use rules::Place;
 use rules::Received;
 use rules::Table;
+use table::Search;
 ghost use mathlib.Core.Path.{_≡_};
 ghost use mathlib.Core.Bool.{true, false};
 ghost use Prim.Native.Nat.{_≤_, _<_};
@@ -20,15 +21,13 @@ ghost use Rattle.rules.specs.Promises.{OfSegment};
 ghost use Rattle.param_read.specs.Reading.{reading};
 ghost use Rattle.table.specs.Seeking.{Points};
 ghost use Rattle.receive_carry.specs.Carried.{Leads};
-ghost use Rattle.receive_segment.specs.Arrival.{refusedWith, searchOf, Seeks, arrival};
+ghost use Rattle.receive_segment.specs.Arrival.{refusedWith, Seeks, arrival};
 
-// A parameter's reading, its key, and the place that it is about (see Search).
+// A parameter's reading, its key, and the place that it is about.
 pub struct Sought {
     pub reading: Reading,
     pub key: Key,
-    pub at: usize,
-    pub found: bool,
-    pub vacant: bool,
+    pub search: Search,
 }
 
 // The key of a segment's sequence: its originating address is copied, zero filled.
@@ -66,34 +65,35 @@ fn refused(number: u8, held: Place) -> Step
 
 // A parameter that touches no place.
 fn nowhere(reading: Reading, key: Key) -> Sought
-    ensures { λ r. ⌜ r ≡ record { reading = reading; key = key; at = 0; found = false; vacant = false } ⌝ }
+    ensures { λ r. ⌜ r ≡ record { reading = reading; key = key; search = record { at = 0; found = false; vacant = false } } ⌝ }
 {
-    Sought {
-        reading,
-        key,
+    let search = Search {
         at: 0,
         found: false,
         vacant: false,
+    };
+    Sought {
+        reading,
+        key,
+        search,
     }
 }
 
 // A parameter that was read, with the place that it is about.
 fn placed(places: [Place; 16], reading: Reading, key: Key) -> Sought
-    ensures { λ r. ⌜ (r .reading ≡ reading) × (Points (placeOf key places) (lowestFree places) (searchOf r) × (r .key ≡ key)) ⌝ }
+    ensures { λ r. ⌜ (r .reading ≡ reading) × (Points (placeOf key places) (lowestFree places) (r .search) × (r .key ≡ key)) ⌝ }
 {
     let search = table::search_for(places, key);
     Sought {
         reading,
         key,
-        at: search.at,
-        found: search.found,
-        vacant: search.vacant,
+        search,
     }
 }
 
 // Reads a parameter, and seeks the place that it is about. An unsegmented one touches no place.
 fn seek(t: Table, association: u16, s: &[u8]) -> Sought
-    ensures { λ r. ⌜ (r .reading ≡ reading (t .registry) (now (s .entry))) × (r .at < placeCount) ⌝ }
+    ensures { λ r. ⌜ (r .reading ≡ reading (t .registry) (now (s .entry))) × (r .search .at < placeCount) ⌝ }
     ensures { λ r. ⌜ ((f : Fields) → r .reading ≡ Reading.Read f → Seeks t (keyOf association (now (s .entry)) f) (f .heading) r) ⌝ }
 {
     let registry = t.registry;
@@ -128,15 +128,16 @@ fn arrive(
 ) -> Step
     requires { ⌜ (sound t ≡ true) × (storeLeast ≤ length (now store)) ⌝ }
     requires { ⌜ (length (now s) ≤ parameterMost) × Seeks t (q .key) (f .heading) q ⌝ }
-    requires { ⌜ (q .at < placeCount) × (held ≡ getD (t .places) (q .at) noPlace) ⌝ }
-    ensures { λ r. ⌜ Leads (arrival t (now (store .entry)) (now (report .entry)) (q .key) f (informationOf (now (s .entry)) f)) t (q .at) r (now (store .exit)) (now (report .exit)) ⌝ }
+    requires { ⌜ (q .search .at < placeCount) × (held ≡ getD (t .places) (q .search .at) noPlace) ⌝ }
+    ensures { λ r. ⌜ Leads (arrival t (now (store .entry)) (now (report .entry)) (q .key) f (informationOf (now (s .entry)) f)) t (q .search .at) r (now (store .exit)) (now (report .exit)) ⌝ }
 {
     let from = f.information;
     let octets = param_read::tail(s, from);
     let heading = f.heading;
     let remaining = held.remaining;
-    let line = receive_lines::line_of(q.found, remaining, held.octets, heading, octets.len());
-    let full = receive_lines::starts(line) & !q.vacant;
+    let search = q.search;
+    let line = receive_lines::line_of(search.found, remaining, held.octets, heading, octets.len());
+    let full = receive_lines::starts(line) & !search.vacant;
     if full {
         return refused(10, held);
     }
@@ -146,8 +147,8 @@ fn arrive(
         fields: f,
         held,
         clock: t.clock,
-        at: q.at,
-        found: q.found,
+        at: search.at,
+        found: search.found,
     };
     receive_carry::carry_out(line, j, store, report, octets)
 }
@@ -165,8 +166,8 @@ fn step(
 ) -> Step
     requires { ⌜ «is_sound» ≡ sound t ⌝ }
     requires { ⌜ (q .reading ≡ reading (t .registry) (now s)) × ((f : Fields) → q .reading ≡ Reading.Read f → Seeks t (keyOf association (now s) f) (f .heading) q) ⌝ }
-    requires { ⌜ (q .at < placeCount) × (held ≡ getD (t .places) (q .at) noPlace) ⌝ }
-    ensures { λ r. ⌜ Leads (segment t (now (store .entry)) (now (report .entry)) association (now (s .entry))) t (q .at) r (now (store .exit)) (now (report .exit)) ⌝ }
+    requires { ⌜ (q .search .at < placeCount) × (held ≡ getD (t .places) (q .search .at) noPlace) ⌝ }
+    ensures { λ r. ⌜ Leads (segment t (now (store .entry)) (now (report .entry)) association (now (s .entry))) t (q .search .at) r (now (store .exit)) (now (report .exit)) ⌝ }
 {
     if !is_sound {
         return refused(1, held);
@@ -197,7 +198,7 @@ pub fn segment(
     let mut next = t;
     let is_sound = sound::is_sound(t);
     let q = seek(t, association, s);
-    let at = q.at;
+    let at = q.search.at;
     let held = next.places[at];
     let r = step(t, is_sound, store, report, association, s, q, held);
     let put = r.put;

@@ -15,12 +15,12 @@ delivery-requires c κs = search needs
 located-at-requires : tie.Need-located-at-requires
 located-at-requires c κs =
     let a = c .before .before .before .before .args in
-    rw (c .delivery .ensures) (delivery-within (now (a .s)) (now (a .store)) (c .before .decision-of .result))
+    rw (c .delivery .ensures .handed) (delivery-within (now (a .s)) (now (a .store)) (c .before .decision-of .result))
 
 returns : tie.Need-returns
 returns c =
     let d = c .before .before .decision-of .ensures in
-    let n = c .before .delivery .ensures in
+    let n = c .before .delivery .ensures .handed in
     let a = c .before .before .before .before .before .args in
     record { answered = c .located-at .ensures ∙ rw (n, d); delivered = rw (c .located-at .ensures, n, d) (taken-delivery (now (a .s)) (now (a .store)) (decisionOf (a .decision))) }
 

@@ -39,23 +39,23 @@ slice-aggregate-result-3 c = search needs
 
 returns : tie.Need-returns
 unfolding delivery
-returns c = c .part-of .ensures ∙ rw (c .before .before .before .before .before .decision .given .1, c .before .before .part .given .1)
+returns c = record { handed = c .part-of .ensures ∙ rw (c .before .before .before .before .before .decision .given .1, c .before .before .part .given .1) }
 
 returns-2 : tie.Need-returns-2
 unfolding delivery
-returns-2 c = c .part-of-place .ensures ∙ rw (c .before .before .before .before .before .decision .given .1, c .before .before .part2 .given .1)
+returns-2 c = record { handed = c .part-of-place .ensures ∙ rw (c .before .before .before .before .before .decision .given .1, c .before .before .part2 .given .1) }
 
 returns-3 : tie.Need-returns-3
 unfolding delivery
-returns-3 c = rw (c .before .enum-told .given .1)
+returns-3 c = record { handed = rw (c .before .enum-told .given .1) }
 
 returns-4 : tie.Need-returns-4
 unfolding delivery
-returns-4 c = rw (c .before .enum-told2 .given .1)
+returns-4 c = record { handed = rw (c .before .enum-told2 .given .1) }
 
 returns-5 : tie.Need-returns-5
 unfolding delivery
-returns-5 c = rw (c .before .enum-told3 .given .1)
+returns-5 c = record { handed = rw (c .before .enum-told3 .given .1) }
 
 pub delivery-spec : {M : Type 1} → statement M
 delivery-spec =

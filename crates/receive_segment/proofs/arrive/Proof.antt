@@ -22,7 +22,7 @@ tail-requires : tie.Need-tail-requires
 tail-requires c κs = search needs
 
 line-of-requires : tie.Need-line-of-requires
-line-of-requires c κs = info-short (c .before .before)
+line-of-requires c κs = info-short (c .before .before .before)
 
 starts-requires : tie.Need-starts-requires
 starts-requires c κs = search needs
@@ -33,19 +33,19 @@ refused-requires c κs = search needs
 returns : tie.Need-returns
 returns c =
     let l = c .before .before .before .before in
-    let i = l .before .before .before in
+    let i = l .before .before .before .before in
     let s = i .before .before .before .before in
     leads-as
     (is-full (s .args .t) (now (s .args .store)) (now (s .args .report)) (s .args .f) (now (i .tail .result)) (s .args .q) (s .args .held) (l .line-of .result) (s .pre .1 .0 .1) (s .pre .1 .1 .1) (l .line-of .ensures .0) (l .line-of .ensures .1) (rw (c .before .before .before .starts .ensures) at (c .before .if1 .taken))
     ∙ ap (arrival (s .args .t) (now (s .args .store)) (now (s .args .report)) (s .args .q .key) (s .args .f)) (i .tail .ensures))
-    (refuses (s .args .t) (now (s .args .store)) (now (s .args .report)) (s .args .q .at) 10 (s .args .held) _ (s .pre .1 .1 .1) (c .refused .ensures))
+    (refuses (s .args .t) (now (s .args .store)) (now (s .args .report)) (s .args .q .search .at) 10 (s .args .held) _ (s .pre .1 .1 .1) (c .refused .ensures))
 
 carry-out-requires : tie.Need-carry-out-requires
 carry-out-requires c κs =
     let l = c .before .before .before .before .before .before in
-    let i = l .before .before .before in
+    let i = l .before .before .before .before in
     let s = i .before .before .before .before in (
-      record { enough = s .pre .0 .1; short = info-short i; inside = s .pre .1 .1 .0; fits = rw (← s .pre .1 .1 .1) at (fit (s .args .t) (s .args .q .at) (s .pre .0 .0)) },
+      record { enough = s .pre .0 .1; short = info-short i; inside = s .pre .1 .1 .0; fits = rw (← s .pre .1 .1 .1) at (fit (s .args .t) (s .args .q .search .at) (s .pre .0 .0)) },
       l .line-of .ensures .1,
     )
 
@@ -60,7 +60,7 @@ returns-2 c =
     let k = c .before .before .before .before in
     let e = k .before .before .before .before in
     let l = e .before .before .before in
-    let i = l .before .before .before in
+    let i = l .before .before .before .before in
     let s = i .before .before .before .before in
     leads-as
     (is-carried (s .args .t) (now (s .args .store)) (now (s .args .report)) (s .args .f) (now (i .tail .result)) (s .args .q) (s .args .held) (l .line-of .result) (s .pre .1 .0 .1) (s .pre .1 .1 .1) (l .line-of .ensures .0) (l .line-of .ensures .1) (rw (e .before .before .starts .ensures) at (e .if1 .left))

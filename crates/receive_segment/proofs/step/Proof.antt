@@ -17,7 +17,7 @@ returns c =
     let s = c .before .before .before .before .before in
     leads-as {o = unreceived (s .args .t) (now (s .args .store)) (now (s .args .report)) 1}
     (sym (segment-is (s .args .t) (now (s .args .store)) (now (s .args .report)) (s .args .association) (now (s .args .s)) ∙ simp (sym (s .pre .0) ∙ not-true _ (c .before .if1 .taken))))
-    (refuses (s .args .t) (now (s .args .store)) (now (s .args .report)) (s .args .q .at) 1 (s .args .held) _ (s .pre .1 .1 .1) (c .refused .ensures))
+    (refuses (s .args .t) (now (s .args .store)) (now (s .args .report)) (s .args .q .search .at) 1 (s .args .held) _ (s .pre .1 .1 .1) (c .refused .ensures))
 
 refused-requires-2 : tie.Need-refused-requires-2
 refused-requires-2 c κs = search needs
@@ -30,7 +30,7 @@ returns-2 c =
       sym (s .pre .0) ∙ not-false _ (c .before .before .if1 .left),
       lt-ltb _ _ (c .before .if2 .taken),
     )))
-    (refuses (s .args .t) (now (s .args .store)) (now (s .args .report)) (s .args .q .at) 2 (s .args .held) _ (s .pre .1 .1 .1) (c .refused2 .ensures))
+    (refuses (s .args .t) (now (s .args .store)) (now (s .args .report)) (s .args .q .search .at) 2 (s .args .held) _ (s .pre .1 .1 .1) (c .refused2 .ensures))
 
 refused-requires-3 : tie.Need-refused-requires-3
 refused-requires-3 c κs = search needs
@@ -44,7 +44,7 @@ returns-3 c =
       le-ltb _ _ (c .before .before .if2 .left),
       lt-ltb _ _ (c .before .if3 .taken),
     )))
-    (refuses (s .args .t) (now (s .args .store)) (now (s .args .report)) (s .args .q .at) 3 (s .args .held) _ (s .pre .1 .1 .1) (c .refused3 .ensures))
+    (refuses (s .args .t) (now (s .args .store)) (now (s .args .report)) (s .args .q .search .at) 3 (s .args .held) _ (s .pre .1 .1 .1) (c .refused3 .ensures))
 
 enum-known-reading : tie.Need-enum-known-reading
 enum-known-reading c = search needs
@@ -76,7 +76,7 @@ returns-4 c =
       le-ltb _ _ (m .if3 .left),
       sym (s .pre .1 .0 .0) ∙ c .before .before .reading .given .1,
     )))
-    (refuses (s .args .t) (now (s .args .store)) (now (s .args .report)) (s .args .q .at) n (s .args .held) _ (s .pre .1 .1 .1) (c .refused4 .ensures))
+    (refuses (s .args .t) (now (s .args .store)) (now (s .args .report)) (s .args .q .search .at) n (s .args .held) _ (s .pre .1 .1 .1) (c .refused4 .ensures))
 
 same-length : tie.Need-same-length
 same-length c = search needs
