@@ -11,7 +11,7 @@ use Rattle.rules.specs.Delivery.{delivery}
 use Rattle.rules.specs.Receiving.{Reception, keyOf, effectOf, segment}
 use Rattle.rules.specs.Layout.{fieldsOf}
 use Rattle.rules.specs.Promises.{OfOpening, OfSegment, OfClock, OfRelease, OfSending}
-use Rattle.rules.specs.Calls.{State, step, toArrive, toTick, toRelease, toSend, afterSegment, afterSweep, afterSending}
+use Rattle.rules.specs.Calls.{State, stateOf, step, toArrive, toTick, toRelease, toSend, afterSegment, afterSweep, afterSending}
 use Rattle.rules.specs.declared.Key.{Key}
 use Rattle.rules.specs.declared.Place.{Place}
 use Rattle.rules.specs.declared.Table.{Table}
@@ -37,7 +37,7 @@ use Rattle.demands.specs.Machine.{Typed}
 use Rattle.demands.specs.Seen.{Seen, seenOf}
 use Rattle.demands.specs.Demanded.{Demanded, Begun}
 use Rattle.demands.proofs.Demanded.{demanded, begun}
-use Rattle.demanded.specs.Demanded.{stateOf, seenOpening, seenClock, DemandedOpening, DemandedSegment, DemandedClock, DemandedRelease, DemandedSending, DemandedC}
+use Rattle.demanded.specs.Demanded.{seenOpening, seenClock, DemandedOpening, DemandedSegment, DemandedClock, DemandedRelease, DemandedSending, DemandedC}
 use Rattle.demanded.specs.declared.Handed.{Handed}
 
 pub of-opening : (registry : List ℕ) (timer time : ℕ) (r : Opened) → time < 2 ^ 32 → OfOpening registry timer time r → DemandedOpening registry timer time r

@@ -2,7 +2,7 @@
 use Prim.Native.Nat.{ℕ}
 use mathlib.Core.List.{List, []}
 use Rattle.rules.specs.Promises.{OfDelivery}
-use Rattle.rules.specs.Calls.{State, toOpen, toArrive, toTick, toRelease, toSend, Outcome, afterOpening, afterSegment, afterSweep, afterSending}
+use Rattle.rules.specs.Calls.{State, stateOf, toOpen, toArrive, toTick, toRelease, toSend, Outcome, afterOpening, afterSegment, afterSweep, afterSending}
 use Rattle.rules.specs.declared.Table.{Table}
 use Rattle.rules.specs.declared.Request.{Request}
 use Rattle.rules.specs.declared.Opened.{Opened}
@@ -16,9 +16,6 @@ use Rattle.demands.specs.History.{after, silence}
 use Rattle.demands.specs.Demanded.{Met, Demanded, Begun}
 use Rattle.demanded.specs.declared.Handed.{Handed}
 use Rattle.demanded.specs.declared.Both.{Both}
-
-abbrev pub stateOf : Table → List ℕ → State
-stateOf t store = record { table = t; store = store }
 
 -- an opening, whatever state was before it
 abbrev pub seenOpening : State → List ℕ → ℕ → ℕ → Opened → Seen

@@ -18,7 +18,7 @@ use Rattle.rules.specs.Receiving.{keyOf, informationOf, lineOf, lineAt, Effect,
 use Rattle.rules.specs.Delivery.{delivery}
 use Rattle.rules.specs.Sweep.{reportLeast, sweep, isDue, isOf, clockChecks, clock, releaseChecks, release, lossesBy}
 use Rattle.rules.specs.Opening.{emptyTable, unopened, openingChecks, opening}
-use Rattle.rules.specs.Calls.{State, Call, Opens, Arrives, Ticks, Releases, Sends, Opening, Arrival, Tick, Release, Dispatch, Answer, Outcome, afterOpening, afterSegment, afterSweep, step}
+use Rattle.rules.specs.Calls.{State, stateOf, Call, Opens, Arrives, Ticks, Releases, Sends, Opening, Arrival, Tick, Release, Dispatch, Answer, Outcome, afterOpening, afterSegment, afterSweep, step}
 use Rattle.rules.specs.declared.Entry.{Entry}
 use Rattle.rules.specs.declared.Key.{Key}
 use Rattle.rules.specs.declared.Place.{Place}
@@ -261,7 +261,7 @@ opened-zero : (st : State) (x : Opening) (b : Bool) → accepted (openingChecks 
 opened-zero st x true e = refl
 opened-zero st x false e = ne-eqb (first (openingChecks (x .registry) (x .timer))) 0 (refused-number st (Opens x) e)
 
-opened-agrees : (store : List ℕ) (n : ℕ) (x : Opening) (b : Bool) → Agrees (record { table = openedBy x b .table; store = store }) (beginning n x b)
+opened-agrees : (store : List ℕ) (n : ℕ) (x : Opening) (b : Bool) → Agrees (stateOf (openedBy x b .table) store) (beginning n x b)
 unfolding held
 opened-agrees store n x true = record { exact = λ k. refl; registry = refl; timer = refl; clock = refl }
 opened-agrees store n x false = record { exact = λ k. refl; registry = refl; timer = refl; clock = refl }

@@ -20,7 +20,7 @@ use Rattle.rules.specs.Delivery.{delivery}
 use Rattle.rules.specs.Opening.{noEntry, opening}
 use Rattle.rules.specs.Sending.{segmentOctets, sendingChecks, sending}
 use Rattle.rules.specs.Examples.{fresh}
-use Rattle.rules.specs.Calls.{State, Opening, Call, Opens, Arrives, Ticks, Releases, Sends, toArrive, toTick, toRelease, As, Answer, Outcome, step}
+use Rattle.rules.specs.Calls.{State, stateOf, Opening, Call, Opens, Arrives, Ticks, Releases, Sends, toArrive, toTick, toRelease, As, Answer, Outcome, step}
 use Rattle.rules.specs.declared.Entry.{Entry}
 use Rattle.rules.specs.declared.Key.{Key}
 use Rattle.rules.specs.declared.Part.the-variants.{OfStore}
@@ -86,7 +86,7 @@ abbrev registry : List ℕ
 registry = 1 ∷ 0 ∷ 3 ∷ 2 ∷ 0 ∷ 4 ∷ []
 
 abbrev before : State
-before = record { table = fresh; store = replicate storeLeast 0 }
+before = stateOf fresh (replicate storeLeast 0)
 
 abbrev openingAt : ℕ → Opening
 openingAt time = record { registry = registry; timer = 100; time = time }
@@ -225,7 +225,7 @@ addressed = cut 4 2 7 (7 ∷ []) (1 ∷ [])
 
 -- from a table opened at a time, with an area of so many octets
 abbrev sender : ℕ → ℕ → Sender
-sender time n = record { state = record { table = opening registry 100 time .table; store = [] }; area = replicate n 0 }
+sender time n = record { state = stateOf (opening registry 100 time .table) []; area = replicate n 0 }
 
 two-sendable : (k : ℕ) → k < countIn two → Sendable two (sender 0 255) k
 unfolding computing

@@ -11,7 +11,7 @@ use Rattle.rules.specs.General.{if_then_else_}
 use Rattle.rules.specs.Numbers.{placeCount}
 use Rattle.rules.specs.Layout.{octet}
 use Rattle.rules.specs.Opening.{unopened}
-use Rattle.rules.specs.Calls.{step}
+use Rattle.rules.specs.Calls.{stateOf, step}
 use Rattle.rules.specs.Trace.{isKnown, bodyLength, Event, Opening, Segment, Clock, Release, Item, Registers, Happens, Stops, itemOf, itemsOf}
 use Rattle.rules.specs.Trace.{Replay, beginning, callOf, stopLine, replayLine, happened, registered, printed, replay}
 use Rattle.demands.specs.Machine.{ours, All, InRange}
@@ -82,7 +82,7 @@ items-fit (suc n) (kind ∷ l) o =
     go false rest = (tt, tt)
 
 -- THE RUN: the unopened table matches silence, and every event goes on from there
-unopened-matches : (store : List ℕ) → Matches (record { table = unopened; store = store }) silence
+unopened-matches : (store : List ℕ) → Matches (stateOf unopened store) silence
 unfolding held
 unopened-matches store =
     record {

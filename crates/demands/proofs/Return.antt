@@ -20,7 +20,7 @@ use Rattle.rules.specs.Places.{noPlace, freePlace, holds, isFree, placeOf, lowe
 use Rattle.rules.specs.Receiving.{lineOf, isStart, effectOf, saveAt, begun, longer, recordWith, receptionOf, Reception, Effect, segment}
 use Rattle.rules.specs.Delivery.{delivery, partOf}
 use Rattle.rules.specs.Sending.{firstCarries, laterCarries, pieceOf, headingFor, carried, sending}
-use Rattle.rules.specs.Calls.{State, Call, Opens, Arrives, Ticks, Releases, Sends, step, As}
+use Rattle.rules.specs.Calls.{State, stateOf, Call, Opens, Arrives, Ticks, Releases, Sends, step, As}
 use Rattle.rules.specs.declared.Entry.{Entry}
 use Rattle.rules.specs.declared.Key.{Key}
 use Rattle.rules.specs.declared.Place.{Place}
@@ -208,9 +208,9 @@ module _ (x : Shipment) (ok : (k : ℕ) → k < countIn x → Facts x k) where
         place free e1 e2 line (rw (e3, e4) e5) e6
         ∙ (λ n. receptionOf (st .table) report (effectBy line place (e3 n) free (e4 n)))
 
-    state-is : (o : Reception) → came ≡ o → step st call .state ≡ record { table = o .answer .table; store = o .store }
+    state-is : (o : Reception) → came ≡ o → step st call .state ≡ stateOf (o .answer .table) (o .store)
     unfolding step
-    state-is o e = ap (λ (o : Reception). record { table = o .answer .table; store = o .store }) e
+    state-is o e = ap (λ (o : Reception). stateOf (o .answer .table) (o .store)) e
 
     keeps-by : (o : Reception) → came ≡ o → o .answer .refusal ≡ 0 → isSaved (As (o .answer .decision)) ≡ true → o .answer .records ≡ 0
         → Saves (step st call .answer)

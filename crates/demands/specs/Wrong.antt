@@ -18,7 +18,7 @@ use Rattle.rules.specs.Sweep.{sweep}
 use Rattle.rules.specs.Opening.{registryWith}
 use Rattle.rules.specs.Delivery.{delivery, partOfPlace}
 use Rattle.rules.specs.Sending.{headerLength, isSegmented, countOf, firstCarries, laterCarries, pieceOf, headingFor, carried, segmentOctets}
-use Rattle.rules.specs.Calls.{State, Call, Opens, Arrives, Ticks, Releases, Sends, Arrival, Tick, Release, Dispatch, lending, As, Answer, answering, refusing}
+use Rattle.rules.specs.Calls.{State, stateOf, Call, Opens, Arrives, Ticks, Releases, Sends, Arrival, Tick, Release, Dispatch, lending, As, Answer, answering, refusing}
 use Rattle.rules.specs.Calls.{Outcome, afterSegment, afterSweep, afterSending, step}
 use Rattle.rules.specs.declared.Key.{Key}
 use Rattle.rules.specs.declared.Fields.{Fields}
@@ -97,7 +97,7 @@ abbrev pub savesFirst : Machine
 savesFirst = stepping (onSegment (λ st x.
     let o : Outcome = step st (Arrives x) in
     if fieldsOf (st .table .registry) (x .parameter) .heading .new then o else
-    outcome (o .answer) (record { table = o .state .table; store = st .store })))
+    outcome (o .answer) (stateOf (o .state .table) (st .store))))
 
 -- an answer with these records at the front of its report
 abbrev reporting : Answer → List Record → Answer
@@ -177,7 +177,7 @@ recordsSending = stepping (onSending (λ st x.
 abbrev pub emptying : (Table → Table) → Machine
 emptying change = whereAccepted (onRelease (λ st x.
     let o : Outcome = step st (Releases x) in
-    if every isFree (o .state .table .places) then outcome (o .answer) (record { table = change (o .state .table); store = o .state .store }) else o))
+    if every isFree (o .state .table .places) then outcome (o .answer) (stateOf (change (o .state .table)) (o .state .store)) else o))
 
 -- it clears the registry; T becomes 1; the clock goes back to 0
 abbrev pub clearsRegistry : Machine

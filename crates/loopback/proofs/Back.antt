@@ -17,7 +17,7 @@ use Rattle.rules.specs.Delivery.{delivery}
 use Rattle.rules.specs.Receiving.{Reception, segment}
 use Rattle.rules.specs.Sending.{sendingChecks, sending}
 use Rattle.rules.specs.Sending as rule
-use Rattle.rules.specs.Calls.{State, toArrive, Answer, step}
+use Rattle.rules.specs.Calls.{State, stateOf, toArrive, Answer, step}
 use Rattle.rules.specs.Promises.{OfSending}
 use Rattle.rules.specs.declared.Table.{Table}
 use Rattle.rules.specs.declared.Request.{Request}
@@ -117,11 +117,11 @@ module _ (x : Asked) (store report area : List ℕ) where
   report-at (suc k) = report-length (at k .table) (at k .store) (at k .report) (x .association) _ ∙ report-at k
 
   abbrev state : ℕ → State
-  state k = record { table = at k .table; store = at k .store }
+  state k = stateOf (at k .table) (at k .store)
 
   -- segment k is sent from the table as it came, which needs no store
   abbrev from : ℕ → Sender
-  from k = record { state = record { table = x .table; store = [] }; area = at k .area }
+  from k = record { state = stateOf (x .table) []; area = at k .area }
 
   module _ (ok : accepted (loopChecks x store report area) ≡ true) (typed : Typed (x .table)) (carrier : x .association < 2 ^ 16) where
     both : (accepted (fitChecks (x .table) (length store) (length report) (length area)) ≡ true)

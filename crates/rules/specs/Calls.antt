@@ -15,6 +15,9 @@ pub record State : Type 0 where
   pub table : Table
   pub store : List ℕ
 
+abbrev pub stateOf : Table → List ℕ → State
+stateOf t store = record { table = t; store = store }
+
 -- what each call is given: its arguments, and the area that it lends beside the store
 pub record Opening : Type 0 where
   pub registry : List ℕ
@@ -112,20 +115,20 @@ pub record Outcome : Type 0 where
   pub state : State
 
 abbrev pub afterOpening : List ℕ → Opened → Outcome
-afterOpening store o = record { answer = answering (o .refusal) 0 Undecided (lending [] []); state = record { table = o .table; store = store } }
+afterOpening store o = record { answer = answering (o .refusal) 0 Undecided (lending [] []); state = stateOf (o .table) store }
 
 abbrev pub afterSegment : Reception → Outcome
 afterSegment o =
     record {
       answer = answering (o .answer .refusal) (o .answer .records) (As (o .answer .decision)) (lending (o .report) []);
-      state = record { table = o .answer .table; store = o .store };
+      state = stateOf (o .answer .table) (o .store);
     }
 
 abbrev pub afterSweep : List ℕ → Sweeping → Outcome
 afterSweep store o =
     record {
       answer = answering (o .answer .refusal) (o .answer .records) Undecided (lending (o .report) []);
-      state = record { table = o .answer .table; store = store };
+      state = stateOf (o .answer .table) store;
     }
 
 abbrev pub afterSending : State → Sending → Outcome

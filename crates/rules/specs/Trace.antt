@@ -11,7 +11,7 @@ use Rattle.rules.specs.Layout.{octet}
 use Rattle.rules.specs.Records.{delivered, lost, recordsFrom}
 use Rattle.rules.specs.Sweep.{reportLeast}
 use Rattle.rules.specs.Opening.{unopened}
-use Rattle.rules.specs.Calls.{State, Call, toOpen, toArrive, toTick, toRelease, Answer, Outcome, step}
+use Rattle.rules.specs.Calls.{State, stateOf, Call, toOpen, toArrive, toTick, toRelease, Answer, Outcome, step}
 use Rattle.rules.specs.declared.Record.{Record}
 
 -- each is one kind octet and a body whose length the kind fixes
@@ -67,7 +67,7 @@ beginning =
     record {
       registry = [];
       begun = false;
-      state = record { table = unopened; store = replicate storeLeast 0 };
+      state = stateOf unopened (replicate storeLeast 0);
       report = replicate reportLeast 0;
     }
 

@@ -9,7 +9,7 @@ use lib.Dec.{eqb, ltb}
 use lib.ListN.{length, take, drop, length-append, length-drop}
 use lib.Seq.{drop-drop, length-take-le}
 use Rattle.rules.specs.General.{if_then_else_}
-use Rattle.rules.specs.Calls.{Outcome, step}
+use Rattle.rules.specs.Calls.{stateOf, Outcome, step}
 use Rattle.rules.specs.Trace.{Event, Opening, Segment, Clock, Release, Item, Registers, Happens, isKnown, bodyLength, itemOf, itemsOf, callOf, replayLine, stopLine, happened, registered, printed}
 use Rattle.rules.specs.Trace as trace
 use Rattle.trace_events.specs.Events.{stepOf, keeping}
@@ -23,7 +23,7 @@ use Rattle.trace.proofs.Keeping.{opening-nine, Kept, kept-more}
 
 -- what is held, with the whole registry as read
 abbrev over : List ℕ → Replay → List ℕ → List ℕ → trace.Replay
-over l held store report = record { registry = l; begun = held .begun; state = record { table = held .table; store = store }; report = report }
+over l held store report = record { registry = l; begun = held .begun; state = stateOf (held .table) store; report = report }
 
 -- a turn on one item
 record Prints (l : List ℕ) (held : Replay) (store report : List ℕ) (item : Item) (used : ℕ) (t : Turned) : Type 0 where

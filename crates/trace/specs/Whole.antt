@@ -11,6 +11,7 @@ use Rattle.rules.specs.Numbers.{storeLeast}
 use Rattle.rules.specs.Registry.{isCut}
 use Rattle.rules.specs.Opening.{unopened}
 use Rattle.rules.specs.Sweep.{reportLeast}
+use Rattle.rules.specs.Calls.{stateOf}
 use Rattle.rules.specs.Trace.{itemsOf, printed}
 use Rattle.rules.specs.Trace as trace
 use Rattle.trace_events.specs.Events.{registryOf}
@@ -23,7 +24,7 @@ replayFrom r l = printed r (itemsOf (length l) l)
 
 -- what the code holds is a replay r of the rule, but that of the registry as read only the first nine records are kept; no record of it is cut
 pub record Shows (held : Replay) (store report : List ℕ) (r : trace.Replay) : Type 0 where
-  pub is : r ≡ record { registry = r .registry; begun = held .begun; state = record { table = held .table; store = store }; report = report }
+  pub is : r ≡ record { registry = r .registry; begun = held .begun; state = stateOf (held .table) store; report = report }
   pub registry : registryOf held ≡ take 27 (r .registry)
   pub most : held .length ≤ 27
   pub area : length (held .registry) ≡ 27

@@ -7,7 +7,7 @@ use lib.ListN.{take}
 use Rattle.octets.specs.Splice.{splice}
 use Rattle.rules.specs.General.{if_then_else_}
 use Rattle.rules.specs.Receiving.{segment}
-use Rattle.rules.specs.Calls.{Outcome, step}
+use Rattle.rules.specs.Calls.{stateOf, Outcome, step}
 use Rattle.rules.specs.Trace.{Event, callOf, reportAfter}
 use Rattle.rules.specs.Trace as trace
 use Rattle.rules.specs.declared.Table.{Table}
@@ -22,7 +22,7 @@ registryOf held = take (held .length) (held .registry)
 -- the rule's replay that the code holds, with the store and the report area
 abbrev pub replayOf : Replay → List ℕ → List ℕ → trace.Replay
 replayOf held store report =
-    record { registry = registryOf held; begun = held .begun; state = record { table = held .table; store = store }; report = report }
+    record { registry = registryOf held; begun = held .begun; state = stateOf (held .table) store; report = report }
 
 abbrev pub answerOpened : Opened → Swept
 answerOpened o = record { table = o .table; refusal = o .refusal; records = 0 }
