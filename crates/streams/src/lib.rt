@@ -6,7 +6,7 @@ use libc::EINTR;
 use libc::STDERR_FILENO;
 ghost use Prim.Native.Nat.{_+_, _≤_};
 ghost use mathlib.Core.Path.{_≡_};
-ghost use mathlib.Core.Bool.{true};
+ghost use mathlib.Core.Bool.{true, false};
 ghost use lib.Dec.{ltb};
 ghost use lib.ListN.{length};
 ghost use Rattle.io.specs.Counts.{Counts};
@@ -72,6 +72,7 @@ fn read_past(fd: i32, what: &[u8], area: &mut [u8], have: usize) -> Got
 // Reads until the area is full or the input ends. Where a read fails, it is told, and what was read before it is counted.
 pub fn fill(fd: i32, what: &[u8], area: &mut [u8]) -> Got
     ensures { λ r. ⌜ Counts (r .count) (now (area .exit)) ⌝ }
+    ensures { λ r. ⌜ (r .count ≡ length (now (area .exit)) → r .failed ≡ false) ⌝ }
 {
     let mut done = 0;
     while done < area.len() {

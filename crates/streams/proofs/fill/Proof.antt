@@ -1,6 +1,6 @@
 -- What has been read lies within the area, which keeps its length; what is left of it falls.
 use Prim.Native.Nat.{_-_, _≤_}
-use mathlib.Core.Path.{_≡_, sym}
+use mathlib.Core.Path.{_≡_, refl, sym}
 use native.Mathlib.Omega.{arith}
 use borrow.Author.Needs.{needs}
 use lib.ListN.{length}
@@ -28,7 +28,7 @@ returns c =
     let n = c .before .before .before .before .before .before .loop .done in
     let area = c .before .before .before .read-past .last .1 .1 .0 in
     let h : n ≤ length area = omega arith in
-    (h, sym (length-take-le n area h))
+    ((h, sym (length-take-le n area h)), λ e. let z : ⊥ = omega arith in absurd z)
 
 add-done : tie.Need-add-done Inv-loop μ-loop
 add-done c = search needs
@@ -45,7 +45,7 @@ same-length-2 c = search needs
 returns-2 : tie.Need-returns-2 Inv-loop μ-loop
 returns-2 c =
     let l = c .before .loop in
-    (l .inv .0, sym (length-take-le (l .done) (l .area) (l .inv .0)))
+    ((l .inv .0, sym (length-take-le (l .done) (l .area) (l .inv .0))), λ e. refl)
 
 pub fill-spec : {M : Type 1} → statement M
 fill-spec =
