@@ -501,6 +501,17 @@ class CommandLine(unittest.TestCase):
         self.assertEqual(status, 2)
         self.assertIn("no-such-file: No such file", said)
 
+    def test_streams_that_cannot_be_used(self):
+        trace = os.path.join(EXAMPLES, "origins.trace")
+        for line, reason in (("encode %s >&-", "standard output: Bad file descriptor"), ("explain <&-", "standard input: Bad file descriptor"),
+                             ("encode %s > /dev/full", "No space left on device"), ("explain --text %s > /dev/full", "No space left on device")):
+            with self.subTest(line):
+                command = "'%s' '%s' %s" % (sys.executable, TOOL, line.replace("%s", "'%s'" % trace))
+                done = subprocess.run(["sh", "-c", command], stdout=subprocess.PIPE, stderr=subprocess.PIPE)
+                self.assertEqual((done.returncode, done.stdout), (2, b""))
+                self.assertTrue(done.stderr.decode().endswith(reason + "\n"), done.stderr)
+                self.assertEqual(done.stderr.count(b"\n"), 1)
+
     def test_the_example_of_the_help_works_when_pasted(self):
         status, out, _ = shell("--help")
         self.assertEqual(status, 0)
