@@ -120,6 +120,15 @@ class Cases(Streams):
             with self.subTest(name), open("/dev/full", "wb") as full:
                 self.fails(name, "write", errno.ENOSPC, self.run_on(command, self.file(good), stdout=full))
 
+    def test_one_failure_is_the_end(self):
+        """Where there is more to write, and more to read: one message, and neither is done."""
+        clocks = bytes([34, 0, 0, 0, 7]) * 20000
+        stdin = self.file(clocks)
+        with open("/dev/full", "wb") as full:
+            self.fails("replay", "write", errno.ENOSPC, self.run_on(REPLAY, stdin, stdout=full))
+            self.assertLess(os.lseek(stdin.fileno(), 0, os.SEEK_CUR), len(clocks), "standard input was read on")
+            self.fails("looped", "write", errno.ENOSPC, self.run_on(LOOPED, self.file(bytes(2049)), stdout=full))
+
     def test_output_that_fills_up(self):
         """A part goes out, then no more does: here by a limit on the size of a file."""
         def limited():
@@ -300,9 +309,11 @@ class Answers(Streams):
         self.assertEqual(self.answered(REPLAY, "read", 0, TRACE, [CONTINUE, errno.EIO]), (LINES, told("replay", "read", errno.EIO), 0, 2))
 
     def test_write_that_takes_nothing(self):
+        """Also after an interruption, of which errno still tells."""
         for name, command, good, _ in PROGRAMS:
-            with self.subTest(name):
-                self.assertEqual(self.answered(command, "write", 1, good, [0]), (b"", "%s: cannot write: nothing was taken\n" % name, 0, 1))
+            for answers in ([0], [errno.EINTR, 0]):
+                with self.subTest(name, answers=answers):
+                    self.assertEqual(self.answered(command, "write", 1, good, answers), (b"", "%s: cannot write: nothing was taken\n" % name, 0, len(answers)))
 
 
 if __name__ == "__main__":
