@@ -13,7 +13,7 @@ use Rattle.rules.specs.Layout.{isUnsegmented, fieldsOf, readingChecks}
 use Rattle.rules.specs.Records.{delivered, lost}
 use Rattle.rules.specs.Places.{sameKey}
 use Rattle.rules.specs.Receiving.{informationOf}
-use Rattle.rules.specs.Trace.{octetsOf}
+use Rattle.rules.specs.Lines.{octetsOf}
 use Rattle.rules.specs.Calls.{Call, Opens, Arrives, Ticks, Releases, Sends}
 use Rattle.rules.specs.declared.Entry.{Entry}
 use Rattle.rules.specs.declared.Key.{Key}

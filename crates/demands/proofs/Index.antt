@@ -4,6 +4,7 @@ use mathlib.Core.Path.{_≡_, refl}
 use mathlib.Core.Bool.{false}
 use mathlib.Core.List.{List}
 use Rattle.rules.specs.Calls.{State, Call, Opens, Opening}
+use Rattle.rules.specs.Trace.{Observer}
 use Rattle.demands.specs.Machine.{Machine, ours, isOpening, InRange}
 use Rattle.demands.specs.Seen.{seenBy}
 use Rattle.demands.specs.Demand1.{Demand1}
@@ -71,6 +72,6 @@ of-call = One.demanded
 pub of-opening : (st : State) (x : Opening) → InRange (Opens x) → Begun (seenBy ours st (Opens x))
 of-opening = One.begun
 
--- what replay prints is told by a run that meets the demands
-pub replayed : (trace : List ℕ) → Octets trace → Replayed trace
+-- what replay, records or any other observer prints is told by a run that meets the demands
+pub replayed : {M : Type 0} (o : Observer M) (m : M) (trace : List ℕ) → Octets trace → Replayed o m trace
 replayed = Replay.replayed

@@ -1,8 +1,8 @@
--- What replay prints of any octets is told by a run that meets the demands.
+-- What is printed of any octets is told by a run that meets the demands.
 use Prim.Native.Nat.{ℕ, zero, suc, _+_, _*_, _≤_, _<_}
-use mathlib.Core.Path.{_≡_, refl, sym, ap₂, _∙_}
+use mathlib.Core.Path.{_≡_, refl, ap}
 use mathlib.Core.Bool.{Bool, true, false, _&&_}
-use mathlib.Core.List.{List, [], _∷_, _++_, append-assoc}
+use mathlib.Core.List.{List, [], _∷_, _++_}
 use native.Mathlib.Omega.{arith}
 use lib.Dec.{eqb, leb}
 use lib.ListN.{length, take, drop, length-take, length-drop}
@@ -13,14 +13,14 @@ use Rattle.rules.specs.Layout.{octet}
 use Rattle.rules.specs.Opening.{unopened}
 use Rattle.rules.specs.Calls.{stateOf, step}
 use Rattle.rules.specs.Trace.{isKnown, bodyLength, Event, Opening, Segment, Clock, Release, Item, Registers, Happens, Stops, itemOf, itemsOf}
-use Rattle.rules.specs.Trace.{Replay, beginning, callOf, stopLine, replayLine, happened, registered, printed, replay}
+use Rattle.rules.specs.Trace.{Replay, beginning, callOf, happened, registered, sightOf, Observer, watched, watching}
 use Rattle.demands.specs.Machine.{ours, All, InRange}
 use Rattle.demands.specs.Seen.{Chained, seenBy}
 use Rattle.demands.specs.History.{Told, silence, after, Along}
 use Rattle.demands.specs.Demand3.{held}
 use Rattle.demands.specs.Exactly.{Octets}
 use Rattle.demands.specs.Demanded.{Matches, Met}
-use Rattle.demands.specs.Replayed.{seenIn, lineBy, lineOf, linesOf, endOf, Replayed}
+use Rattle.demands.specs.Replayed.{seenIn, sightsIn, stopsIn, Sees, AllSee, toldOf, leftBy, Replayed}
 use Rattle.demands.proofs.Typed.{all-free}
 use Rattle.demands.proofs.Demanded.{met, met-opened}
 
@@ -120,33 +120,45 @@ seen-chained r (Stops ∷ items) = tt
 seen-chained r (Registers octets ∷ items) = by-either (Chained (r .state)) (r .begun) _ _ tt (seen-chained (registered r octets) items)
 seen-chained r (Happens e ∷ items) = (refl, seen-chained (happened r e (step (r .state) (callOf r e))) items)
 
--- THE LINES
-event-line : (r : Replay) (e : Event) → replayLine e (step (r .state) (callOf r e) .answer) ≡ lineOf (seenBy ours (r .state) (callOf r e))
-unfolding replayLine lineBy
-event-line r (Opening timer time) = refl
-event-line r (Segment association s) = refl
-event-line r (Clock time) = refl
-event-line r (Release association) = refl
+-- WHAT IS PRINTED
+event-seen : (r : Replay) (e : Event) → Sees (sightOf r e) (seenBy ours (r .state) (callOf r e))
+event-seen r e = record { replay = r; call = refl; before = refl; answer = refl; left = refl }
 
-items-lines : (r : Replay) (items : List Item) → printed r items ≡ linesOf (seenIn r items) ++ endOf r items
-unfolding printed seenIn endOf
-items-lines r [] = refl
-items-lines r (Stops ∷ items) = refl
-items-lines r (Registers octets ∷ items) = go (r .begun) (items-lines (registered r octets) items)
+all-seen : (r : Replay) (items : List Item) → AllSee (sightsIn r items) (seenIn r items)
+unfolding sightsIn seenIn
+all-seen r [] = tt
+all-seen r (Stops ∷ items) = tt
+all-seen r (Registers octets ∷ items) = go (r .begun) (all-seen (registered r octets) items)
   where
-    go : (b : Bool) → printed (registered r octets) items ≡ linesOf (seenIn (registered r octets) items) ++ endOf (registered r octets) items
-        → (if b then stopLine else printed (registered r octets) items)
-        ≡ linesOf (if b then [] else seenIn (registered r octets) items) ++ (if b then stopLine else endOf (registered r octets) items)
+    go : (b : Bool) → AllSee (sightsIn (registered r octets) items) (seenIn (registered r octets) items)
+        → AllSee (if b then [] else sightsIn (registered r octets) items) (if b then [] else seenIn (registered r octets) items)
+    go true rest = tt
+    go false rest = rest
+all-seen r (Happens e ∷ items) = (event-seen r e, all-seen (happened r e (step (r .state) (callOf r e))) items)
+
+all-told : {M : Type 0} (o : Observer M) (m : M) (r : Replay) (items : List Item) → watched o m r items ≡ toldOf o m (sightsIn r items) (leftBy (r .state) (seenIn r items)) (stopsIn r items)
+unfolding watched sightsIn seenIn stopsIn
+all-told o m r [] = refl
+all-told o m r (Stops ∷ items) = refl
+all-told o m r (Registers octets ∷ items) = go (r .begun) (all-told o m (registered r octets) items)
+  where
+    next : Replay
+    next = registered r octets
+
+    go : (b : Bool) → watched o m next items ≡ toldOf o m (sightsIn next items) (leftBy (r .state) (seenIn next items)) (stopsIn next items)
+        → (if b then o .ends m (r .state) true else watched o m next items)
+        ≡ toldOf o m (if b then [] else sightsIn next items) (leftBy (r .state) (if b then [] else seenIn next items)) (if b then true else stopsIn next items)
     go true rest = refl
     go false rest = rest
-items-lines r (Happens e ∷ items) =
-    ap₂ _++_ (event-line r e) (items-lines (happened r e (step (r .state) (callOf r e))) items) ∙ sym (append-assoc (lineOf (seenBy ours (r .state) (callOf r e))) _ _)
+all-told o m r (Happens e ∷ items) =
+    ap (λ (l : List ℕ). o .tells m (sightOf r e) ++ l) (all-told o (o .keeps m (sightOf r e)) (happened r e (step (r .state) (callOf r e))) items)
 
-pub replayed : (trace : List ℕ) → Octets trace → Replayed trace
-unfolding replay
-replayed trace o =
+pub replayed : {M : Type 0} (o : Observer M) (m : M) (trace : List ℕ) → Octets trace → Replayed o m trace
+unfolding watching
+replayed o m trace octets =
     record {
-      lines = items-lines beginning (itemsOf (length trace) trace);
+      prints = all-told o m beginning (itemsOf (length trace) trace);
+      seen = all-seen beginning (itemsOf (length trace) trace);
       chained = seen-chained beginning (itemsOf (length trace) trace);
-      met = seen-met beginning silence (unopened-matches _) (itemsOf (length trace) trace) (items-fit (length trace) trace o);
+      met = seen-met beginning silence (unopened-matches _) (itemsOf (length trace) trace) (items-fit (length trace) trace octets);
     }

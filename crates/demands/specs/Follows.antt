@@ -8,7 +8,7 @@ use lib.ListN.{length}
 use Rattle.rules.specs.General.{if_then_else_}
 use Rattle.rules.specs.Records.{delivered}
 use Rattle.rules.specs.Places.{sameKey}
-use Rattle.rules.specs.Trace.{octetsOf}
+use Rattle.rules.specs.Lines.{octetsOf}
 use Rattle.rules.specs.declared.Key.{Key}
 use Rattle.demands.specs.Machine.{Machine, All}
 use Rattle.demands.specs.Seen.{Seen}

@@ -7,7 +7,7 @@
 --   Sending                                     Sending
 --   Refusal numbers                             Refusals (how a number is found), each call's own list beside the call; Soundness (what sound means)
 --   What the contracts have to say              Promises
---   Examples on each side                       Examples; the replay program: Trace
+--   Examples on each side                       Examples; the replay program: Trace (the walk), Lines (what it prints); beside it, the program records: Listing
 pub mod General
 pub mod Numbers
 pub mod Refusals
@@ -24,4 +24,6 @@ pub mod Sending
 pub mod Calls
 pub mod Promises
 pub mod Trace
+pub mod Lines
+pub mod Listing
 pub mod Examples

@@ -1,18 +1,16 @@
--- The replay program's rule: from the octets of a trace to the octets that it prints.
-use Prim.Native.Nat.{ℕ, zero, suc, _+_, _/_, _%_}
+-- A trace, record by record, and what an observer prints of it. The observers: Lines (replay), Listing (records).
+use Prim.Native.Nat.{ℕ, zero, suc}
 use mathlib.Core.Bool.{Bool, true, false, _&&_, _||_}
 use mathlib.Core.List.{List, [], _∷_, _++_}
-use lib.Dec.{eqb, leb, ltb}
+use lib.Dec.{eqb, leb}
 use lib.ListN.{length, take, drop, replicate}
 use Rattle.octets.specs.Number.{number}
 use Rattle.rules.specs.General.{if_then_else_}
 use Rattle.rules.specs.Numbers.{storeLeast}
 use Rattle.rules.specs.Layout.{octet}
-use Rattle.rules.specs.Records.{delivered, lost, recordsFrom}
 use Rattle.rules.specs.Sweep.{reportLeast}
 use Rattle.rules.specs.Opening.{unopened}
 use Rattle.rules.specs.Calls.{State, stateOf, Call, toOpen, toArrive, toTick, toRelease, Answer, Outcome, step}
-use Rattle.rules.specs.declared.Record.{Record}
 
 -- each is one kind octet and a body whose length the kind fixes
 abbrev pub isKnown : ℕ → Bool
@@ -78,39 +76,6 @@ callOf r (Segment association s) = toArrive association s (r .report)
 callOf r (Clock time) = toTick time (r .report)
 callOf r (Release association) = toRelease association (r .report)
 
--- the names, in ASCII: open, segment, clock, release, stop
-abbrev pub nameOf : Event → List ℕ
-nameOf (Opening timer time) = 111 ∷ 112 ∷ 101 ∷ 110 ∷ []
-nameOf (Segment association s) = 115 ∷ 101 ∷ 103 ∷ 109 ∷ 101 ∷ 110 ∷ 116 ∷ []
-nameOf (Clock time) = 99 ∷ 108 ∷ 111 ∷ 99 ∷ 107 ∷ []
-nameOf (Release association) = 114 ∷ 101 ∷ 108 ∷ 101 ∷ 97 ∷ 115 ∷ 101 ∷ []
-
-abbrev pub stopLine : List ℕ
-stopLine = 115 ∷ 116 ∷ 111 ∷ 112 ∷ 10 ∷ []
-
--- a number in decimal, to ten digits
-abbrev pub digitsOf : ℕ → ℕ → List ℕ
-digitsOf zero x = []
-digitsOf (suc n) x = if ltb x 10 then (48 + x) ∷ [] else digitsOf n (x / 10) ++ ((48 + x % 10) ∷ [])
-
-abbrev pub decimal : ℕ → List ℕ
-decimal x = digitsOf 10 x
-
--- the octets of the records of a kind
-abbrev pub octetsOf : ℕ → List Record → ℕ
-octetsOf kind [] = 0
-octetsOf kind (r ∷ rs) = (if eqb (r .kind) kind then r .octets else 0) + octetsOf kind rs
-
--- name, refusal number or 0, records made, octets delivered, octets lost
-abbrev pub lineOctets : List ℕ → ℕ → ℕ → ℕ → ℕ → List ℕ
-lineOctets name refusal records gained missed =
-    name ++ (32 ∷ decimal refusal) ++ (32 ∷ decimal records) ++ (32 ∷ decimal gained) ++ (32 ∷ decimal missed) ++ (10 ∷ [])
-
-unfoldable pub replayLine : Event → Answer → List ℕ
-replayLine e a =
-    let records : List Record = recordsFrom (a .records) (a .lent .report) in
-    lineOctets (nameOf e) (a .refusal) (a .records) (octetsOf delivered records) (octetsOf lost records)
-
 abbrev pub isOpening : Event → Bool
 isOpening (Opening timer time) = true
 isOpening (Segment association s) = false
@@ -127,14 +92,30 @@ happened r e o = record { registry = r .registry; begun = r .begun || isOpening 
 abbrev pub registered : Replay → List ℕ → Replay
 registered r octets = record { registry = r .registry ++ octets; begun = r .begun; state = r .state; report = r .report }
 
--- a line per event; a registry record after the first open stops
-unfoldable pub printed : Replay → List Item → List ℕ
-printed r [] = []
-printed r (Stops ∷ items) = stopLine
-printed r (Registers octets ∷ items) = if r .begun then stopLine else printed (registered r octets) items
-printed r (Happens e ∷ items) =
-    let o : Outcome = step (r .state) (callOf r e) in
-    replayLine e (o .answer) ++ printed (happened r e o) items
+-- what is seen of an event: the state that it meets, and what comes of it
+pub record Sight : Type 0 where
+  pub before : State
+  pub event : Event
+  pub outcome : Outcome
 
-unfoldable pub replay : List ℕ → List ℕ
-replay trace = printed beginning (itemsOf (length trace) trace)
+abbrev pub sightOf : Replay → Event → Sight
+sightOf r e = record { before = r .state; event = e; outcome = step (r .state) (callOf r e) }
+
+-- an observer has a memory M: what it prints of an event, what it keeps for the next, and what it prints at the end, whether the trace stops or the input ends there
+pub record Observer (M : Type 0) : Type 0 where
+  pub tells : M → Sight → List ℕ
+  pub keeps : M → Sight → M
+  pub ends : M → State → Bool → List ℕ
+
+-- what it prints of a trace; a registry record after the first open stops
+unfoldable pub watched : {M : Type 0} → Observer M → M → Replay → List Item → List ℕ
+watched o m r [] = o .ends m (r .state) false
+watched o m r (Stops ∷ items) = o .ends m (r .state) true
+watched o m r (Registers octets ∷ items) = if r .begun then o .ends m (r .state) true else watched o m (registered r octets) items
+watched o m r (Happens e ∷ items) =
+    let s : Sight = sightOf r e in
+    o .tells m s ++ watched o (o .keeps m s) (happened r e (s .outcome)) items
+
+-- .. from the beginning, by its octets
+unfoldable pub watching : {M : Type 0} → Observer M → M → List ℕ → List ℕ
+watching o m trace = watched o m beginning (itemsOf (length trace) trace)

@@ -1,7 +1,3 @@
-pub mod Registering
-pub mod Happening
-pub mod Fitting
-pub mod Turning
 pub mod Running
-pub mod Keeping
+pub mod Telling
 pub mod Whole

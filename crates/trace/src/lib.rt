@@ -1,170 +1,180 @@
-// Traces: one record to one event, one step of the calls and one line; and a block of records at a time.
+// Traces watched: what is printed of them, record by record and a block of records at a time.
+use rules::Place;
 use trace_events::Replay;
-use trace_items::Body;
-use trace_items::Event;
-use trace_items::Item;
+use trace_items::Happening;
+use trace_turns::Met;
 ghost use mathlib.Core.Path.{_≡_};
-ghost use mathlib.Core.Bool.{true, false};
-ghost use Prim.Native.Nat.{_+_, _≤_};
-ghost use lib.ListN.{length, replicate};
-ghost use Rattle.octets.specs.Splice.{splice, Wrote};
-ghost use Rattle.rules.specs.Opening.{unopened};
-ghost use Rattle.rules.specs.Trace.{isKnown, bodyLength, itemOf, stopLine};
-ghost use Rattle.trace_items.specs.Reading.{eventMeant};
-ghost use Rattle.trace.specs.Turns.{OfTurn, Registered, happening, atItem, turned, runs, endLine};
+ghost use mathlib.Core.List.{List};
+ghost use Prim.Native.Nat.{ℕ, _*_, _≤_};
+ghost use lib.ListN.{length};
+ghost use Rattle.octets.specs.Splice.{Wrote};
+ghost use Rattle.rules.specs.Lines.{counted};
+ghost use Rattle.trace_turns.specs.Turns.{Fits};
+ghost use Rattle.trace.specs.Watching.{observerOf, endedBy, eventBy, toldBy, countBy, stopsAt, OfTurn, turned, runs, endOf};
 
-// What was done with the front of an input: so many of its octets are used, so many are written, and the replay has ended or goes on.
+// What a turn prints is no longer than this: so much room there has to be for one more.
+const TOLD: usize = 8192;
+
+// Who watches: replay prints a line for each event, records prints every record too.
+pub enum Watcher {
+    Lines,
+    Records,
+}
+
+// What was done with the front of an input: so many of its octets are used, so many are written, and the trace has stopped or goes on. events is the number of the last event.
 pub struct Progress {
     pub replay: Replay,
+    pub events: u64,
     pub used: usize,
     pub written: usize,
     pub ended: bool,
 }
 
-// Nothing is done: what there is of the input is no whole record.
-fn waits(held: Replay) -> Progress
-    ensures { λ r. ⌜ r ≡ record { replay = held; used = 0; written = 0; ended = false } ⌝ }
+// The end, at a table with these places.
+fn tell_end(which: Watcher, places: [Place; 16], stops: bool, out: &mut [u8]) -> usize
+    ensures { λ r. ⌜ Wrote (now (out .entry)) 0 (endedBy which places «stops») (now (out .exit)) r ⌝ }
+    ensures { λ r. ⌜ r ≤ 8192 ⌝ }
 {
-    Progress {
-        replay: held,
-        used: 0,
-        written: 0,
-        ended: false,
+    match which {
+        Watcher::Lines => trace_lines::put_end(out, 0, stops),
+        Watcher::Records => trace_records::put_end(out, places, stops),
     }
 }
 
-// The replay ends.
-fn stops(held: Replay, out: &mut [u8]) -> Progress
-    ensures { λ r. ⌜ r ≡ record { replay = held; used = 0; written = 5; ended = true } ⌝ }
-    ensures { λ _. ⌜ now (out .exit) ≡ splice (now (out .entry)) 0 stopLine ⌝ }
+// The number of the next event.
+fn next_event(events: u64) -> u64
+    ensures { λ r. ⌜ r ≡ counted events ⌝ }
 {
-    trace_lines::put_stop(out);
-    Progress {
-        replay: held,
-        used: 0,
-        written: 5,
-        ended: true,
+    std::num::wrapping_add_u64(events, 1)
+}
+
+// An event that met a table with these places.
+fn tell_event(
+    which: Watcher,
+    events: u64,
+    places: [Place; 16],
+    h: Happening,
+    report: &[u8],
+    out: &mut [u8],
+) -> usize
+    requires { ⌜ (h .records ≤ 16) × (32 * h .records ≤ length (now report)) ⌝ }
+    ensures { λ r. ⌜ Wrote (now (out .entry)) 0 (eventBy which events places h (now (report .entry))) (now (out .exit)) r ⌝ }
+    ensures { λ r. ⌜ r ≤ 8192 ⌝ }
+{
+    match which {
+        Watcher::Lines => trace_lines::put_line(out, h.kind, h.refusal, h.records, report),
+        Watcher::Records => trace_records::put_event(out, next_event(events), h, report, places),
     }
 }
 
-// A registry record: it stops after the first open.
-fn registers(held: Replay, kind: u8, body: &[u8], out: &mut [u8]) -> Progress
-    ensures { λ r. ⌜ Registered held kind (now (body .entry)) (now (out .entry)) r (now (out .exit)) ⌝ }
-    ensures { λ r. ⌜ (r .used ≤ 3) × (r .written ≤ 5) ⌝ }
+// What the front of an input was met as, at a table with these places.
+fn tell(
+    which: Watcher,
+    events: u64,
+    places: [Place; 16],
+    met: Met,
+    report: &[u8],
+    out: &mut [u8],
+) -> usize
+    requires { ⌜ Fits met (now report) ⌝ }
+    ensures { λ r. ⌜ Wrote (now (out .entry)) 0 (toldBy which events places met (now (report .entry))) (now (out .exit)) r ⌝ }
+    ensures { λ r. ⌜ r ≤ 8192 ⌝ }
 {
-    if held.begun {
-        return stops(held, out);
-    }
-    Progress {
-        replay: trace_events::kept(held, kind, body),
-        used: 3,
-        written: 0,
-        ended: false,
+    match met {
+        Met::Waits => 0,
+        Met::Stops => tell_end(which, places, true, out),
+        Met::Registers => 0,
+        Met::Happens(h) => tell_event(which, events, places, h, report, out),
     }
 }
 
-// An event: its step and its line.
-fn happens(
+// The number of the last event, after what was met.
+fn count(events: u64, met: Met) -> u64
+    ensures { λ r. ⌜ r ≡ countBy events met ⌝ }
+{
+    match met {
+        Met::Waits => events,
+        Met::Stops => events,
+        Met::Registers => events,
+        Met::Happens(_) => next_event(events),
+    }
+}
+
+// Whether the trace stops.
+fn stops(met: Met) -> bool
+    ensures { λ r. ⌜ r ≡ stopsAt met ⌝ }
+{
+    match met {
+        Met::Waits => false,
+        Met::Stops => true,
+        Met::Registers => false,
+        Met::Happens(_) => false,
+    }
+}
+
+// The record at the front of an input: what is printed of it goes to the front of out.
+fn step(
+    which: Watcher,
+    events: u64,
     held: Replay,
     store: &mut [u8],
     report: &mut [u8],
-    e: Event,
-    body: &[u8],
+    input: &[u8],
     out: &mut [u8],
 ) -> Progress
-    requires { ⌜ length (now body) ≤ 258 ⌝ }
-    ensures { λ r. ⌜ OfTurn (happening held (now (store .entry)) (now (report .entry)) (eventMeant e (now (body .entry))) (1 + length (now (body .entry)))) (now (out .entry)) r (now (store .exit)) (now (report .exit)) (now (out .exit)) ⌝ }
-    ensures { λ r. ⌜ r .written ≤ 52 ⌝ }
+    ensures { λ r. ⌜ OfTurn (turned (observerOf which) events held (now (store .entry)) (now (report .entry)) (now (input .entry))) (now (out .entry)) r (now (store .exit)) (now (report .exit)) (now (out .exit)) ⌝ }
+    ensures { λ r. ⌜ (r .used ≤ length (now (input .entry))) × (r .written ≤ 8192) ⌝ }
 {
-    let kind = trace_items::kind_of(e);
-    let a = trace_events::happen(held, store, report, e, body);
-    let written = trace_lines::put_line(out, kind, a.refusal, a.records, report);
-    let registry = held.registry;
-    let table = a.table;
+    let places = held.table.places;
+    let w = trace_turns::turn(held, store, report, input);
+    let met = w.met;
+    let written = tell(which, events, places, met, report, out);
+    let replay = w.replay;
     Progress {
-        replay: Replay {
-            registry,
-            length: held.length,
-            table,
-            begun: held.begun | (kind == 32),
-        },
-        used: 1 + body.len(),
+        replay,
+        events: count(events, met),
+        used: w.used,
         written,
-        ended: false,
+        ended: stops(met),
     }
 }
 
-// A record of a known kind.
-fn known(
-    held: Replay,
-    store: &mut [u8],
-    report: &mut [u8],
-    kind: u8,
-    body: &[u8],
-    out: &mut [u8],
-) -> Progress
-    requires { ⌜ (isKnown kind ≡ true) × (length (now body) ≡ bodyLength kind) ⌝ }
-    ensures { λ r. ⌜ OfTurn (atItem held (now (store .entry)) (now (report .entry)) (itemOf kind (now (body .entry))) (1 + bodyLength kind)) (now (out .entry)) r (now (store .exit)) (now (report .exit)) (now (out .exit)) ⌝ }
-    ensures { λ r. ⌜ (r .used ≤ 1 + bodyLength kind) × (r .written ≤ 52) ⌝ }
-{
-    let item = trace_items::item_of(kind, body);
-    match item {
-        Item::Registers => registers(held, kind, body, out),
-        Item::Happens(e) => happens(held, store, report, e, body, out),
-    }
-}
-
-// The record at the front of an input: its line, if it has one, goes to the front of out.
-pub fn turn(
-    held: Replay,
-    store: &mut [u8],
-    report: &mut [u8],
-    input: &[u8],
-    out: &mut [u8],
-) -> Progress
-    ensures { λ r. ⌜ OfTurn (turned held (now (store .entry)) (now (report .entry)) (now (input .entry))) (now (out .entry)) r (now (store .exit)) (now (report .exit)) (now (out .exit)) ⌝ }
-    ensures { λ r. ⌜ (r .used ≤ length (now (input .entry))) × (r .written ≤ 52) ⌝ }
-{
-    if input.len() == 0 {
-        return waits(held);
-    }
-    let kind = input[0];
-    let body = trace_items::body_length(kind);
-    match body {
-        Body::Unknown => stops(held, out),
-        Body::Of(n) => {
-            if input.len() - 1 < n {
-                return waits(held);
-            }
-            let end = 1 + n;
-            known(held, store, report, kind, &input[1..end], out)
-        }
-    }
-}
-
-// The records at the front of an input, one after the other, as long as out has room for a line.
+// The records at the front of an input, one after the other, as long as out has room for what is printed of one.
 pub fn block(
+    which: Watcher,
+    first: u64,
     held: Replay,
     store: &mut [u8],
     report: &mut [u8],
     input: &[u8],
     out: &mut [u8],
 ) -> Progress
-    ensures { λ r. ⌜ OfTurn (runs (length (now (input .entry))) (length (now (out .entry))) held (now (store .entry)) (now (report .entry)) (now (input .entry))) (now (out .entry)) r (now (store .exit)) (now (report .exit)) (now (out .exit)) ⌝ }
+    ensures { λ r. ⌜ OfTurn (runs (observerOf which) (length (now (input .entry))) (length (now (out .entry))) first held (now (store .entry)) (now (report .entry)) (now (input .entry))) (now (out .entry)) r (now (store .exit)) (now (report .exit)) (now (out .exit)) ⌝ }
     ensures { λ r. ⌜ (r .used ≤ length (now (input .entry))) × (r .written ≤ length (now (out .entry))) ⌝ }
 {
     let mut replay = held;
+    let mut events = first;
     let mut used = 0;
     let mut written = 0;
-    while 52 <= out.len() - written {
-        let t = turn(replay, store, report, &input[used..], &mut out[written..]);
+    while TOLD <= out.len() - written {
+        let t = step(
+            which,
+            events,
+            replay,
+            store,
+            report,
+            &input[used..],
+            &mut out[written..],
+        );
         replay = t.replay;
+        events = t.events;
         used += t.used;
         written += t.written;
         let over = t.ended | (t.used == 0);
         if over {
             return Progress {
                 replay,
+                events,
                 used,
                 written,
                 ended: t.ended,
@@ -173,6 +183,7 @@ pub fn block(
     }
     Progress {
         replay,
+        events,
         used,
         written,
         ended: false,
@@ -180,26 +191,10 @@ pub fn block(
 }
 
 // Where the input has ended: what is left of it is a cut record, and stops.
-pub fn ending(left: usize, out: &mut [u8]) -> usize
-    ensures { λ r. ⌜ Wrote (now (out .entry)) 0 (endLine left) (now (out .exit)) r ⌝ }
-    ensures { λ r. ⌜ r ≤ 5 ⌝ }
+pub fn ending(which: Watcher, held: Replay, left: usize, out: &mut [u8]) -> usize
+    ensures { λ r. ⌜ ((events : ℕ) (store : List ℕ) → Wrote (now (out .entry)) 0 (endOf (observerOf which) events held store left) (now (out .exit)) r) ⌝ }
+    ensures { λ r. ⌜ r ≤ 8192 ⌝ }
 {
-    if left == 0 {
-        return 0;
-    }
-    trace_lines::put_stop(out)
-}
-
-// A replay at its beginning: an event before open meets the unopened table.
-pub fn beginning() -> Replay
-    ensures { λ r. ⌜ r ≡ record { registry = replicate 27 0; length = 0; table = unopened; begun = false } ⌝ }
-{
-    let r = opening::opening(b"", 0, 0);
-    let table = r.table;
-    Replay {
-        registry: [0; 27],
-        length: 0,
-        table,
-        begun: false,
-    }
+    let places = held.table.places;
+    tell_end(which, places, left != 0, out)
 }

@@ -6,13 +6,14 @@ use lib.Dec.{ltb}
 use lib.ListN.{take}
 use Rattle.octets.specs.Splice.{splice}
 use Rattle.rules.specs.General.{if_then_else_}
-use Rattle.rules.specs.Receiving.{segment}
 use Rattle.rules.specs.Calls.{stateOf, Outcome, step}
 use Rattle.rules.specs.Trace.{Event, callOf, reportAfter}
 use Rattle.rules.specs.Trace as trace
-use Rattle.rules.specs.declared.Table.{Table}
+use Rattle.rules.specs.Listing.{decisionIn}
 use Rattle.rules.specs.declared.Opened.{Opened}
+use Rattle.rules.specs.declared.Received.{Received}
 use Rattle.rules.specs.declared.Swept.{Swept}
+use Rattle.rules.specs.declared.Decision.the-variants.{Refused}
 use Rattle.trace_events.specs.declared.Replay.{Replay}
 
 -- the registry as kept
@@ -24,25 +25,23 @@ abbrev pub replayOf : Replay → List ℕ → List ℕ → trace.Replay
 replayOf held store report =
     record { registry = registryOf held; begun = held .begun; state = stateOf (held .table) store; report = report }
 
-abbrev pub answerOpened : Opened → Swept
-answerOpened o = record { table = o .table; refusal = o .refusal; records = 0 }
+-- the answers of calls that decide nothing
+abbrev pub answerOpened : Opened → Received
+answerOpened o = record { table = o .table; decision = Refused; refusal = o .refusal; records = 0 }
 
--- a segment's answer, decision aside, and the areas after it
-pub record Arrived (t : Table) (store report : List ℕ) (association : ℕ) (s : List ℕ) (answer : Swept) (store′ report′ : List ℕ) : Type 0 where
-  pub table : answer .table ≡ segment t store report association s .answer .table
-  pub refusal : answer .refusal ≡ segment t store report association s .answer .refusal
-  pub records : answer .records ≡ segment t store report association s .answer .records
-  pub stored : store′ ≡ segment t store report association s .store
-  pub reported : report′ ≡ segment t store report association s .report
+abbrev pub answerSwept : Swept → Received
+answerSwept o = record { table = o .table; decision = Refused; refusal = o .refusal; records = o .records }
 
 -- what an event does is the rules' own step
 abbrev pub stepOf : Replay → List ℕ → List ℕ → Event → Outcome
 stepOf held store report e = let r : trace.Replay = replayOf held store report in step (r .state) (callOf r e)
 
-pub record OfEvent (held : Replay) (store report : List ℕ) (e : Event) (answer : Swept) (store′ report′ : List ℕ) : Type 0 where
-  pub table : answer .table ≡ stepOf held store report e .state .table
-  pub refusal : answer .refusal ≡ stepOf held store report e .answer .refusal
-  pub records : answer .records ≡ stepOf held store report e .answer .records
+-- what the code answers of an outcome
+abbrev pub answerOf : Outcome → Received
+answerOf o = record { table = o .state .table; decision = decisionIn (o .answer .decided); refusal = o .answer .refusal; records = o .answer .records }
+
+pub record OfEvent (held : Replay) (store report : List ℕ) (e : Event) (answer : Received) (store′ report′ : List ℕ) : Type 0 where
+  pub answered : answer ≡ answerOf (stepOf held store report e)
   pub stored : store′ ≡ stepOf held store report e .state .store
   pub reported : report′ ≡ reportAfter (replayOf held store report) e (stepOf held store report e .answer)
 

@@ -1,12 +1,15 @@
 // An event of a trace, by its call; and the registry records kept for an open.
+use rules::Decision;
+use rules::Received;
 use rules::Swept;
 use rules::Table;
 use trace_items::Event;
 ghost use mathlib.Core.Path.{_≡_};
 ghost use lib.ListN.{take, drop};
 ghost use Rattle.rules.specs.Opening.{opening};
+ghost use Rattle.rules.specs.Promises.{OfSegment};
 ghost use Rattle.trace_items.specs.Reading.{eventMeant};
-ghost use Rattle.trace_events.specs.Events.{registryOf, answerOpened, Arrived, OfEvent, keeping};
+ghost use Rattle.trace_events.specs.Events.{registryOf, answerOpened, answerSwept, OfEvent, keeping};
 
 // What a replay hands on beside the store and the report area. Of the registry as read nine records are kept: with nine an open is refused as with more.
 pub struct Replay {
@@ -16,15 +19,16 @@ pub struct Replay {
     pub begun: bool,
 }
 
-// What an event answers has the shape of a sweep's answer; an opening makes no record. Every open uses the whole registry as read.
-fn open(held: Replay, timer: u32, clock: u32) -> Swept
+// What an event answers has the shape of a segment's answer; an opening makes no record. Every open uses the whole registry as read.
+fn open(held: Replay, timer: u32, clock: u32) -> Received
     ensures { λ r. ⌜ r ≡ answerOpened (opening (registryOf held) timer clock) ⌝ }
 {
     let registry = held.registry;
     let r = opening::opening(octets::part(&registry, 0, held.length), timer, clock);
     let table = r.table;
-    Swept {
+    Received {
         table,
+        decision: Decision::Refused,
         refusal: r.refusal,
         records: 0,
     }
@@ -38,21 +42,28 @@ fn arrive(
     association: u16,
     length: u8,
     body: &[u8],
-) -> Swept
-    ensures { λ r. ⌜ Arrived t (now (store .entry)) (now (report .entry)) association (take length (drop 3 (now (body .entry)))) r (now (store .exit)) (now (report .exit)) ⌝ }
+) -> Received
+    ensures { λ r. ⌜ OfSegment t (now (store .entry)) (now (report .entry)) association (take length (drop 3 (now (body .entry)))) r (now (store .exit)) (now (report .exit)) ⌝ }
 {
     let s = octets::part(body, 3, length as usize);
-    let r = receiver::segment(t, store, report, association, s);
-    let table = r.table;
-    Swept {
+    receiver::segment(t, store, report, association, s)
+}
+
+// The answer of a sweep, which decides nothing.
+fn swept(s: Swept) -> Received
+    ensures { λ r. ⌜ r ≡ answerSwept s ⌝ }
+{
+    let table = s.table;
+    Received {
         table,
-        refusal: r.refusal,
-        records: r.records,
+        decision: Decision::Refused,
+        refusal: s.refusal,
+        records: s.records,
     }
 }
 
 // An event, by its call.
-pub fn happen(held: Replay, store: &mut [u8], report: &mut [u8], e: Event, body: &[u8]) -> Swept
+pub fn happen(held: Replay, store: &mut [u8], report: &mut [u8], e: Event, body: &[u8]) -> Received
     ensures { λ r. ⌜ OfEvent held (now (store .entry)) (now (report .entry)) (eventMeant e (now (body .entry))) r (now (store .exit)) (now (report .exit)) ⌝ }
 {
     let table = held.table;
@@ -62,8 +73,8 @@ pub fn happen(held: Replay, store: &mut [u8], report: &mut [u8], e: Event, body:
             association,
             length,
         } => arrive(table, store, report, association, length, body),
-        Event::Clock(time) => receiver::clock(table, report, time),
-        Event::Release(association) => receiver::release(table, report, association),
+        Event::Clock(time) => swept(receiver::clock(table, report, time)),
+        Event::Release(association) => swept(receiver::release(table, report, association)),
     }
 }
 

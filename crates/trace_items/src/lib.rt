@@ -1,4 +1,5 @@
 // A record of a trace, read to its item: the length of its body by its kind, and what the body says.
+use rules::Decision;
 ghost use mathlib.Core.Path.{_≡_};
 ghost use Prim.Native.Nat.{_+_, _≤_};
 ghost use lib.ListN.{length, take, drop};
@@ -12,6 +13,14 @@ pub enum Event {
     Segment { association: u16, length: u8 },
     Clock(u32),
     Release(u16),
+}
+
+// An event that happened: its kind, and its answer but for the table. A call that decides nothing has the decision of a refusal.
+pub struct Happening {
+    pub decision: Decision,
+    pub kind: u8,
+    pub refusal: u8,
+    pub records: u8,
 }
 
 // A record of a trace.

@@ -8,17 +8,17 @@ use native.Mathlib.Omega.{arith}
 use borrow.Author.Tests.{lt-ltb, le-ltb}
 use lib.ListN.{length, take, drop, set, replicate, length-drop, length-set}
 use lib.Seq.{take-all, drop-cons, getD-set-same, drop-set-lt, append-snoc}
-use Rattle.rules.specs.Trace.{digitsOf, decimal}
+use Rattle.rules.specs.Lines.{digitsOf, decimal}
 
 -- what is left gives all: the digits of the rest, to index i, and then those that are made
 pub record Left (all digits : List ℕ) (rest i : ℕ) : Type 0 where
   pub is : all ≡ digitsOf (i + 1) rest ++ drop (i + 1) digits
   pub fits : rest < 10 ^ (i + 1)
-  pub there : i ≤ 9
-  pub ten : length digits ≡ 10
+  pub there : i ≤ 19
+  pub twenty : length digits ≡ 20
 
-pub left-starts : (x : ℕ) → x < 2 ^ 32 → Left (decimal x) (replicate 10 0) x 9
-left-starts x h = record { is = sym (append-nil (decimal x)); fits = omega arith; there = omega arith; ten = refl }
+pub left-starts : (x : ℕ) → x < 2 ^ 64 → Left (decimal x) (replicate 20 0) x 19
+left-starts x h = record { is = sym (append-nil (decimal x)); fits = omega arith; there = omega arith; twenty = refl }
 
 drop-set : (l : List ℕ) (i a : ℕ) → i < length l → drop i (set l i a) ≡ a ∷ drop (suc i) l
 drop-set l i a h =
@@ -28,7 +28,7 @@ drop-set l i a h =
 module _ (all digits : List ℕ) (rest i : ℕ) (inv : Left all digits rest i) where
   more : 10 ≤ rest → all ≡ digitsOf i (rest / 10) ++ drop i (set digits i (48 + rest % 10))
   more h =
-      let t = inv .ten in
+      let t = inv .twenty in
       let e : all ≡ digitsOf (suc i) rest ++ drop (suc i) digits = rw add-one at (inv .is) in
       e ∙ rw (le-ltb rest 10 h, drop-set digits i (48 + rest % 10) (omega arith)) (append-snoc (digitsOf i (rest / 10)) (48 + rest % 10) (drop (suc i) digits))
 
@@ -46,19 +46,19 @@ module _ (all digits : List ℕ) (rest i : ℕ) (inv : Left all digits rest i) w
       let e : i - 1 + 1 ≡ i = omega arith in
       let f : rest < 10 ^ i * 10 = rw (add-one, pow-suc) at (inv .fits) in
       let t = inv .there in
-      record { is = rw e (more h); fits = rw e (omega arith); there = omega arith; ten = simp length-set (inv .ten) }
+      record { is = rw e (more h); fits = rw e (omega arith); there = omega arith; twenty = simp length-set (inv .twenty) }
 
   last : rest < 10 → all ≡ drop i (set digits i (48 + rest % 10))
   last h =
-      let t = inv .ten in
+      let t = inv .twenty in
       let l = inv .there in
       let m : rest % 10 ≡ rest = omega arith in
       let e : all ≡ digitsOf (suc i) rest ++ drop (suc i) digits = rw add-one at (inv .is) in
       e ∙ rw (lt-ltb rest 10 h, m, drop-set digits i (48 + rest) (omega arith))
 
   -- the made ones are all, so many
-  pub left-ends : rest < 10 → (all ≡ take (10 - i) (drop i (set digits i (48 + rest % 10)))) × (length all ≡ 10 - i)
+  pub left-ends : rest < 10 → (all ≡ take (20 - i) (drop i (set digits i (48 + rest % 10)))) × (length all ≡ 20 - i)
   left-ends h =
       let made : List ℕ = set digits i (48 + rest % 10) in
-      let n : length (drop i made) ≡ 10 - i = length-drop i made ∙ rw (length-set digits i (48 + rest % 10), inv .ten) in
-      (last h ∙ sym (take-all (10 - i) (drop i made) (omega arith)), ap length (last h) ∙ n)
+      let n : length (drop i made) ≡ 20 - i = length-drop i made ∙ rw (length-set digits i (48 + rest % 10), inv .twenty) in
+      (last h ∙ sym (take-all (20 - i) (drop i made) (omega arith)), ap length (last h) ∙ n)

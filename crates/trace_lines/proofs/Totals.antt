@@ -9,7 +9,7 @@ use lib.Seq.{getD-take, getD-drop, drop-drop}
 use Rattle.octets.specs.Number.{number}
 use Rattle.rules.specs.General.{if_then_else_}
 use Rattle.rules.specs.Records.{recordFrom, recordsFrom}
-use Rattle.rules.specs.Trace.{octetsOf}
+use Rattle.rules.specs.Lines.{octetsOf}
 
 octet-there : (l : List ℕ) (at k : ℕ) → k < 32 → getD (take 32 (drop at l)) k 0 ≡ getD l (at + k) 0
 octet-there l at k h = getD-take 32 (drop at l) k 0 h ∙ getD-drop at l k 0

@@ -1,24 +1,20 @@
-use mathlib.Core.Path.{refl, sym}
-use native.Mathlib.Omega.{arith}
-use borrow.Author.Tests.{eq-eqb, ne-eqb}
-use Rattle.octets.proofs.Splice.{splice-nil}
+use mathlib.Core.List.{[]}
+use Rattle.trace.proofs.Telling.{ended-is}
 use borrow.Author.Needs.{needs}
 use Rattle.trace.proofs.ending.Statement.{statement}
 use Rattle.trace.proofs.ending.Tie as tie
 
-returns : tie.Need-returns
-returns c = (simp (eq-eqb _ _ (c .if1 .taken)) (record { place = refl; stored = sym (splice-nil _ _) }), omega arith)
-
-put-stop-requires : tie.Need-put-stop-requires
-put-stop-requires c κs = search needs
+tell-end-requires : tie.Need-tell-end-requires
+tell-end-requires c κs = search needs
 
 same-length : tie.Need-same-length
 same-length c = search needs
 
-returns-2 : tie.Need-returns-2
-returns-2 c =
-    let s = c .before .before .put-stop .ensures in
-    (simp (ne-eqb _ _ (c .before .before .before .before .if1 .left)) s, omega (arith, s .place))
+returns : tie.Need-returns
+returns c =
+    let p = c .before .before in
+    let s = p .before .before .before .before in
+    ((λ events store. rw (← ended-is (s .args .held) store [] (s .args .which) events _) (p .tell-end .ensures .0)), p .tell-end .ensures .1)
 
 pub ending-spec : {M : Type 1} → statement M
-ending-spec = tie.close (tie.spec returns put-stop-requires same-length returns-2)
+ending-spec = tie.close (tie.spec tell-end-requires same-length returns)

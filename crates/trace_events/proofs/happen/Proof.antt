@@ -1,5 +1,4 @@
 use Rattle.trace_events.proofs.Calling.{of-opening, of-segment, of-clock, of-release}
-use mathlib.Core.Path.{refl}
 use borrow.Author.Needs.{needs}
 use Rattle.trace_events.proofs.happen.Statement.{statement}
 use Rattle.trace_events.proofs.happen.Tie as tie
@@ -22,11 +21,17 @@ enum-known-e-3 c = search needs
 clock-requires : tie.Need-clock-requires
 clock-requires c κs = search needs
 
+swept-requires : tie.Need-swept-requires
+swept-requires c κs = search needs
+
 enum-known-e-4 : tie.Need-enum-known-e-4
 enum-known-e-4 c = search needs
 
 release-requires : tie.Need-release-requires
 release-requires c κs = search needs
+
+swept-requires-2 : tie.Need-swept-requires-2
+swept-requires-2 c κs = search needs
 
 returns : tie.Need-returns
 returns c = rw (c .before .before .e .given .1) (of-opening _ _ _ _ _ _ (c .«open» .ensures))
@@ -47,16 +52,16 @@ same-length-3 c = search needs
 
 returns-3 : tie.Need-returns-3
 returns-3 c =
-    let k = c .before .before in
-    rw (k .before .before .before .e3 .given .1) (of-clock _ _ _ _ _ _ _ (k .clock .ensures) refl)
+    let k = c .before .before .before in
+    rw (k .before .before .before .e3 .given .1) (of-clock _ _ _ _ _ _ _ (k .clock .ensures) (c .swept .ensures))
 
 same-length-4 : tie.Need-same-length-4
 same-length-4 c = search needs
 
 returns-4 : tie.Need-returns-4
 returns-4 c =
-    let k = c .before .before in
-    rw (k .before .before .before .e4 .given .1) (of-release _ _ _ _ _ _ _ (k .release .ensures) refl)
+    let k = c .before .before .before in
+    rw (k .before .before .before .e4 .given .1) (of-release _ _ _ _ _ _ _ (k .release .ensures) (c .swept2 .ensures))
 
 pub happen-spec : {M : Type 1} → statement M
 happen-spec =
@@ -68,8 +73,10 @@ happen-spec =
     arrive-requires
     enum-known-e-3
     clock-requires
+    swept-requires
     enum-known-e-4
     release-requires
+    swept-requires-2
     returns
     same-length
     same-length-2

@@ -32,19 +32,19 @@ same-length : tie.Need-same-length
 same-length c = search needs
 
 returns : tie.Need-returns
-returns c = rw (c .before .before .before .before .before .match .keys1) (c .before .before .put-word .ensures .0, omega (arith, c .before .before .put-word .ensures .1))
+returns c = rw (c .before .before .before .before .before .match .keys1) (c .before .before .put-word .ensures, omega (arith, c .before .before .put-word .ensures .place))
 
 same-length-2 : tie.Need-same-length-2
 same-length-2 c = search needs
 
 returns-2 : tie.Need-returns-2
-returns-2 c = rw (c .before .before .before .before .before .match .keys2) (c .before .before .put-word2 .ensures .0, omega (arith, c .before .before .put-word2 .ensures .1))
+returns-2 c = rw (c .before .before .before .before .before .match .keys2) (c .before .before .put-word2 .ensures, omega (arith, c .before .before .put-word2 .ensures .place))
 
 same-length-3 : tie.Need-same-length-3
 same-length-3 c = search needs
 
 returns-3 : tie.Need-returns-3
-returns-3 c = rw (c .before .before .before .before .before .match .keys3) (c .before .before .put-word3 .ensures .0, omega (arith, c .before .before .put-word3 .ensures .1))
+returns-3 c = rw (c .before .before .before .before .before .match .keys3) (c .before .before .put-word3 .ensures, omega (arith, c .before .before .put-word3 .ensures .place))
 
 same-length-4 : tie.Need-same-length-4
 same-length-4 c = search needs
@@ -53,7 +53,7 @@ returns-4 : tie.Need-returns-4
 returns-4 c =
     let m = c .before .before .before .before .before in
     let n = m .match .rest in
-    (simp (ne-eqb _ 32 (n .0 .0 .1), ne-eqb _ 33 (n .0 .1), ne-eqb _ 34 (n .1)) (c .before .before .put-word4 .ensures .0), omega (arith, c .before .before .put-word4 .ensures .1))
+    (simp (ne-eqb _ 32 (n .0 .0 .1), ne-eqb _ 33 (n .0 .1), ne-eqb _ 34 (n .1)) (c .before .before .put-word4 .ensures), omega (arith, c .before .before .put-word4 .ensures .place))
 
 pub put-name-spec : {M : Type 1} → statement M
 put-name-spec =

@@ -5,7 +5,7 @@ use mathlib.Core.Path.{_≡_, sym, _∙_}
 use native.Mathlib.Omega.{arith}
 use lib.ListN.{drop}
 use Rattle.rules.specs.Records.{recordsFrom}
-use Rattle.rules.specs.Trace.{octetsOf}
+use Rattle.rules.specs.Lines.{octetsOf}
 use Rattle.trace_lines.proofs.Totals.{total-next}
 use Rattle.trace_lines.proofs.total.Statement.{statement}
 use Rattle.trace_lines.proofs.total.Tie as tie

@@ -1,0 +1,50 @@
+use native.Mathlib.Omega.{arith}
+use borrow.Author.Needs.{needs}
+use Rattle.trace.proofs.tell_event.Statement.{statement}
+use Rattle.trace.proofs.tell_event.Tie as tie
+
+enum-told : tie.Need-enum-told
+enum-told c = search needs
+
+put-line-requires : tie.Need-put-line-requires
+put-line-requires c κs = search needs
+
+enum-told-2 : tie.Need-enum-told-2
+enum-told-2 c = search needs
+
+next-event-requires : tie.Need-next-event-requires
+next-event-requires c κs = search needs
+
+put-event-requires : tie.Need-put-event-requires
+put-event-requires c κs = search needs
+
+same-length : tie.Need-same-length
+same-length c = search needs
+
+returns : tie.Need-returns
+returns c =
+    let p = c .before .before in
+    (rw (p .before .before .enum-told .given .1) (p .put-line .ensures .0), omega (arith, p .put-line .ensures .1))
+
+same-length-2 : tie.Need-same-length-2
+same-length-2 c = search needs
+
+returns-2 : tie.Need-returns-2
+returns-2 c =
+    let p = c .before .before in
+    let n = p .before in
+    (rw (n .before .before .enum-told2 .given .1, ← n .next-event .ensures) (p .put-event .ensures .0), omega (arith, p .put-event .ensures .1))
+
+pub tell-event-spec : {M : Type 1} → statement M
+tell-event-spec =
+    tie.close
+    (tie.spec
+    enum-told
+    put-line-requires
+    enum-told-2
+    next-event-requires
+    put-event-requires
+    same-length
+    returns
+    same-length-2
+    returns-2)

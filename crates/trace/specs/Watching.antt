@@ -1,0 +1,138 @@
+-- A trace as it is watched: what one record does and what an observer prints of it, and a block of records.
+use Prim.Native.Nat.{ℕ, zero, suc, _+_, _-_}
+use mathlib.Core.Path.{_≡_}
+use mathlib.Core.Bool.{Bool, true, false, not, _||_}
+use mathlib.Core.List.{List, [], _++_}
+use lib.Dec.{eqb, ltb}
+use lib.ListN.{length, drop}
+use Rattle.octets.specs.Splice.{Wrote}
+use Rattle.rules.specs.General.{if_then_else_}
+use Rattle.rules.specs.Calls.{State, stateOf}
+use Rattle.rules.specs.Trace.{Observer}
+use Rattle.rules.specs.Lines.{stopIf, counted, lining}
+use Rattle.rules.specs.Listing.{listing}
+use Rattle.rules.specs.declared.Place.{Place}
+use Rattle.trace_items.specs.declared.Happening.{Happening}
+use Rattle.trace_events.specs.declared.Replay.{Replay}
+use Rattle.trace_turns.specs.Turns.{Front, Waiting, Stopping, Registering, Seeing, Walked, walked}
+use Rattle.trace_turns.specs.declared.Met.{Met}
+use Rattle.trace_turns.specs.declared.Met.the-variants as met
+use Rattle.trace_lines.specs.Printing as lines
+use Rattle.trace_records.specs.Listing as records
+use Rattle.trace.specs.declared.Watcher.{Watcher}
+use Rattle.trace.specs.declared.Watcher.the-variants.{Lines, Records}
+use Rattle.trace.specs.declared.Progress.{Progress}
+
+-- the observer that a watcher is
+abbrev pub observerOf : Watcher → Observer ℕ
+observerOf Lines = lining
+observerOf Records = listing
+
+-- what a watcher writes, by what the code knows: the places before, what was met, the report area after
+abbrev pub endedBy : Watcher → List Place → Bool → List ℕ
+endedBy Lines places stops = stopIf stops
+endedBy Records places stops = records.endFor places stops
+
+abbrev pub eventBy : Watcher → ℕ → List Place → Happening → List ℕ → List ℕ
+eventBy Lines events places h report = lines.lineFor (h .kind) (h .refusal) (h .records) report
+eventBy Records events places h report = records.listingFor (counted events) h report places
+
+abbrev pub toldBy : Watcher → ℕ → List Place → Met → List ℕ → List ℕ
+toldBy which events places met.Waits report = []
+toldBy which events places met.Stops report = endedBy which places true
+toldBy which events places met.Registers report = []
+toldBy which events places (met.Happens h) report = eventBy which events places h report
+
+abbrev pub countBy : ℕ → Met → ℕ
+countBy events met.Waits = events
+countBy events met.Stops = events
+countBy events met.Registers = events
+countBy events (met.Happens h) = counted events
+
+abbrev pub stopsAt : Met → Bool
+stopsAt met.Waits = false
+stopsAt met.Stops = true
+stopsAt met.Registers = false
+stopsAt (met.Happens h) = false
+
+-- the same of any observer, by what is seen
+module _ {M : Type 0} (o : Observer M) where
+  abbrev pub linesOf : M → State → Front → List ℕ
+  linesOf m st Waiting = []
+  linesOf m st Stopping = o .ends m st true
+  linesOf m st Registering = []
+  linesOf m st (Seeing s) = o .tells m s
+
+  abbrev pub memoryOf : M → Front → M
+  memoryOf m Waiting = m
+  memoryOf m Stopping = m
+  memoryOf m Registering = m
+  memoryOf m (Seeing s) = o .keeps m s
+
+abbrev pub isStop : Front → Bool
+isStop Waiting = false
+isStop Stopping = true
+isStop Registering = false
+isStop (Seeing s) = false
+
+-- what is done with the front of an input: what is printed, what is kept and held then, how many octets are used, whether the trace has stopped
+pub record Turned (M : Type 0) : Type 0 where
+  pub lines : List ℕ
+  pub memory : M
+  pub held : Replay
+  pub store : List ℕ
+  pub report : List ℕ
+  pub used : ℕ
+  pub ended : Bool
+
+-- a turn of the code: the lines are at the front of the lent area, and the rest of it stays
+pub record OfTurn (want : Turned ℕ) (out : List ℕ) (answer : Progress) (store′ report′ out′ : List ℕ) : Type 0 where
+  pub replay : answer .replay ≡ want .held
+  pub events : answer .events ≡ want .memory
+  pub used : answer .used ≡ want .used
+  pub ended : answer .ended ≡ want .ended
+  pub stored : store′ ≡ want .store
+  pub reported : report′ ≡ want .report
+  pub wrote : Wrote out 0 (want .lines) out′ (answer .written)
+
+-- no watcher prints more of one event
+abbrev pub toldMost : ℕ
+toldMost = 8192
+
+module _ {M : Type 0} (o : Observer M) where
+  abbrev pub turnOf : M → State → Walked → Turned M
+  turnOf m st w =
+      record {
+        lines = linesOf o m st (w .front);
+        memory = memoryOf o m (w .front);
+        held = w .held;
+        store = w .store;
+        report = w .report;
+        used = w .used;
+        ended = isStop (w .front);
+      }
+
+  -- the record at the front
+  abbrev pub turned : M → Replay → List ℕ → List ℕ → List ℕ → Turned M
+  turned m held store report input = turnOf m (stateOf (held .table) store) (walked held store report input)
+
+  -- nothing is done
+  abbrev pub resting : M → Replay → List ℕ → List ℕ → Turned M
+  resting m held store report = record { lines = []; memory = m; held = held; store = store; report = report; used = 0; ended = false }
+
+  abbrev pub joined : Turned M → Turned M → Turned M
+  joined a b =
+      record { lines = a .lines ++ b .lines; memory = b .memory; held = b .held; store = b .store; report = b .report; used = a .used + b .used; ended = b .ended }
+
+  -- so many turns at most, as long as there is room for what one prints
+  unfoldable pub runs : ℕ → ℕ → M → Replay → List ℕ → List ℕ → List ℕ → Turned M
+  runs zero room m held store report input = resting m held store report
+  runs (suc n) room m held store report input =
+      let t : Turned M = turned m held store report input in
+      if ltb room toldMost then resting m held store report else
+      if t .ended || eqb (t .used) 0 then t else
+      joined t (runs n (room - length (t .lines)) (t .memory) (t .held) (t .store) (t .report) (drop (t .used) input))
+
+  -- where the input has ended, with so many octets left
+  abbrev pub endOf : M → Replay → List ℕ → ℕ → List ℕ
+  endOf m held store left = o .ends m (stateOf (held .table) store) (not (eqb left 0))

@@ -1,0 +1,41 @@
+use native.Mathlib.Omega.{arith}
+use Rattle.octets.proofs.Splice.{wrote-then}
+use Rattle.trace_records.proofs.Listing.{line-is}
+use borrow.Author.Needs.{needs}
+use Rattle.trace_records.proofs.put_record.Statement.{statement}
+use Rattle.trace_records.proofs.put_record.Tie as tie
+
+put-named-requires : tie.Need-put-named-requires
+put-named-requires c κs = search needs
+
+put-counts-requires : tie.Need-put-counts-requires
+put-counts-requires c κs = search needs
+
+put-origin-requires : tie.Need-put-origin-requires
+put-origin-requires c κs = search needs
+
+put-octet-requires : tie.Need-put-octet-requires
+put-octet-requires c κs = search needs
+
+same-length : tie.Need-same-length
+same-length c = search needs
+
+returns : tie.Need-returns
+returns c =
+    let o = c .before .before in
+    let g = o .before .before .before .before in
+    let k = g .before .before .before .before in
+    let n = k .before .before .before .before in
+    let s = n .before .before .before .before .before in
+    (rw (← line-is (s .args .word .now) (s .args .r)) (wrote-then (wrote-then (wrote-then (n .put-named .ensures .0) (k .put-counts .ensures .0)) (g .put-origin .ensures .0)) (o .put-octet .ensures)), omega (arith, n .put-named .ensures .1, k .put-counts .ensures .1, g .put-origin .ensures .1, o .put-octet .ensures .place))
+
+pub put-record-spec : {M : Type 1} → statement M
+put-record-spec =
+    tie.close
+    (tie.spec
+    put-named-requires
+    put-counts-requires
+    put-origin-requires
+    put-octet-requires
+    same-length
+    returns)

@@ -1,0 +1,47 @@
+use native.Mathlib.Omega.{arith}
+use borrow.Author.Tests.{eq-eqb, ne-eqb}
+use Rattle.octets.proofs.Splice.{wrote-then}
+use borrow.Author.Needs.{needs}
+use Rattle.trace_records.proofs.put_reference.Statement.{statement}
+use Rattle.trace_records.proofs.put_reference.Tie as tie
+
+put-octet-requires : tie.Need-put-octet-requires
+put-octet-requires c κs = search needs
+
+put-octet-requires-2 : tie.Need-put-octet-requires-2
+put-octet-requires-2 c κs = search needs
+
+same-length : tie.Need-same-length
+same-length c = search needs
+
+returns : tie.Need-returns
+returns c =
+    let p = c .before .before in
+    let t = p .before .before in
+    let o = t .before .before .before in
+    (simp (eq-eqb _ 255 (t .if1 .taken)) (wrote-then (o .put-octet .ensures) (p .put-octet2 .ensures)), omega (arith, o .put-octet .ensures .place, p .put-octet2 .ensures .place))
+
+put-number-requires : tie.Need-put-number-requires
+put-number-requires c κs = search needs
+
+same-length-2 : tie.Need-same-length-2
+same-length-2 c = search needs
+
+returns-2 : tie.Need-returns-2
+returns-2 c =
+    let p = c .before .before in
+    let t = p .before .before in
+    let o = t .before .before .before in
+    (simp (ne-eqb _ 255 (t .if1 .left)) (wrote-then (o .put-octet .ensures) (p .put-number .ensures .0)), omega (arith, o .put-octet .ensures .place, p .put-number .ensures .1))
+
+pub put-reference-spec : {M : Type 1} → statement M
+put-reference-spec =
+    tie.close
+    (tie.spec
+    put-octet-requires
+    put-octet-requires-2
+    same-length
+    returns
+    put-number-requires
+    same-length-2
+    returns-2)

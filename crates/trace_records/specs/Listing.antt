@@ -1,0 +1,32 @@
+-- What is printed of an event, by its kind octet and its answer.
+use Prim.Native.Nat.{ℕ}
+use mathlib.Core.Bool.{Bool}
+use mathlib.Core.List.{List, [], _∷_, _++_}
+use lib.Dec.{eqb}
+use Rattle.rules.specs.General.{if_then_else_}
+use Rattle.rules.specs.Records.{recordsFrom}
+use Rattle.rules.specs.Lines.{field, stopIf}
+use Rattle.rules.specs.Listing.{droppedWord, heldWord, referenceWord, recordLines, openLines, numberedLine}
+use Rattle.rules.specs.declared.Key.{Key}
+use Rattle.rules.specs.declared.Place.{Place}
+use Rattle.rules.specs.declared.Record.{Record}
+use Rattle.trace_lines.specs.Printing.{fieldsFor}
+use Rattle.trace_items.specs.declared.Happening.{Happening}
+
+-- a record's line, as it is written: what names the sequence, what is said of it, the originating address
+abbrev pub namedFields : List ℕ → Key → List ℕ
+namedFields word k = word ++ field (k .association) ++ field (k .context .0) ++ (32 ∷ referenceWord (k .reference .0))
+
+abbrev pub countFields : Record → List ℕ
+countFields r = field (r .instruction) ++ field (r .cause) ++ field (r .segments) ++ field (r .octets)
+
+abbrev pub lineFor : ℕ → Happening → List ℕ → List ℕ
+lineFor number h report = numberedLine (fieldsFor (h .kind) (h .refusal) (h .records) report) number (h .refusal) (h .decision)
+
+-- the line, the records, and what an opening drops
+abbrev pub listingFor : ℕ → Happening → List ℕ → List Place → List ℕ
+listingFor number h report places =
+    lineFor number h report ++ recordLines (recordsFrom (h .records) report) ++ (if eqb (h .kind) 32 then openLines droppedWord places else [])
+
+abbrev pub endFor : List Place → Bool → List ℕ
+endFor places stops = openLines heldWord places ++ stopIf stops

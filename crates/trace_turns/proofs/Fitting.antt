@@ -1,0 +1,105 @@
+-- What an event makes fits: at most 16 records, and the report area has room for them.
+use Prim.Native.Nat.{ℕ, _*_, _≤_}
+use mathlib.Core.Path.{_≡_}
+use mathlib.Core.Bool.{Bool, true, false, and-eq-true-iff}
+use mathlib.Core.List.{List, [], _∷_, map}
+use native.Mathlib.Omega.{arith}
+use borrow.Author.Tests.{ltb-false, not-true}
+use lib.ListN.{length, length-map}
+use Rattle.octets.proofs.Splice.{splice-length}
+use Rattle.rules.specs.General.{if_then_else_, those}
+use Rattle.rules.specs.Numbers.{placeCount}
+use Rattle.rules.specs.Refusals.{accepted}
+use Rattle.rules.specs.Records.{recordLength, recordsOctets}
+use Rattle.rules.specs.Receiving.{effectOf, Reception, receivedAt}
+use Rattle.rules.specs.Sweep.{Sweeping, sweep, lossOf, reportLeast, clockChecks, releaseChecks}
+use Rattle.rules.specs.Calls.{step}
+use Rattle.rules.specs.Trace.{Event, Opening, Segment, Clock, Release, reportAfter}
+use Rattle.rules.specs.declared.Key.{Key}
+use Rattle.rules.specs.declared.Place.{Place}
+use Rattle.rules.specs.declared.Table.{Table}
+use Rattle.rules.specs.declared.Fields.{Fields}
+use Rattle.rules.specs.declared.Found.{Found}
+use Rattle.rules.specs.declared.Line.{Line}
+use Rattle.rules.specs.declared.Line.the-variants.{Unsegmented, Broken, Restart, Start, Final, Next}
+use Rattle.rules.proofs.Answers.{segment-by, clock-by, release-by}
+use Rattle.rules.proofs.Arrived.{arrived}
+use Rattle.trace_events.specs.Events.{replayOf, stepOf, OfEvent}
+use Rattle.trace_events.specs.declared.Replay.{Replay}
+use Rattle.rules.specs.declared.Received.{Received}
+use Rattle.trace_events.proofs.Replay.{the-type}
+use Rattle.trace_events.proofs.Replay.Laws.{the-laws}
+use denote.Laws.{Is}
+use denote.Struct.Declared.{row}
+use denote.Struct.Laws.{val}
+
+abbrev Whole : ℕ → List ℕ → Type 0
+Whole records report = (records ≤ placeCount) × (recordLength * records ≤ length report)
+
+-- a segment makes at most one
+effect-one : (line : Line) (t : Table) (store : List ℕ) (key : Key) (f : Fields) (octets : List ℕ) (place : Found) (p : Place) (room : Found)
+    → length (effectOf line t store key f octets place p room .records) ≤ 1
+unfolding effectOf
+effect-one Unsegmented t store key f octets place p room = omega arith
+effect-one (Broken cause) t store key f octets place p room = omega arith
+effect-one Restart t store key f octets place p room = omega arith
+effect-one Start t store key f octets place p room = omega arith
+effect-one Final t store key f octets place p room = omega arith
+effect-one Next t store key f octets place p room = omega arith
+
+-- a sweep makes at most one a place
+those-fewer : (test : Place → Bool) (ps : List Place) → length (those test ps) ≤ length ps
+those-fewer test [] = omega arith
+those-fewer test (p ∷ ps) = go (test p) (those-fewer test ps)
+  where
+    go : (b : Bool) → length (those test ps) ≤ length ps → length (if b then p ∷ those test ps else those test ps) ≤ length (p ∷ ps)
+    go true h = omega arith
+    go false h = omega arith
+
+sweep-fits : (test : Place → Bool) (cause time : ℕ) (t : Table) (report : List ℕ) → length (t .places) ≡ placeCount → reportLeast ≤ length report
+    → Whole (sweep test cause time t report .answer .records) (sweep test cause time t report .report)
+unfolding sweep
+sweep-fits test cause time t report n room =
+    let f = those-fewer test (t .places) in
+    let m = length-map (those test (t .places)) (lossOf cause) in
+    (omega arith, rw (splice-length report 0 (recordsOctets (map (lossOf cause) (those test (t .places))))) (omega arith))
+
+-- neither is made where the area is too short
+clock-room : (t : Table) (report : List ℕ) (time : ℕ) → accepted (clockChecks t report time) ≡ true → reportLeast ≤ length report
+unfolding clockChecks
+clock-room t report time e = ltb-false _ _ (not-true _ ((simp and-eq-true-iff at e) .1 .0))
+
+release-room : (t : Table) (report : List ℕ) → accepted (releaseChecks t report) ≡ true → reportLeast ≤ length report
+unfolding releaseChecks
+release-room t report e = ltb-false _ _ (not-true _ ((simp and-eq-true-iff at e) .1 .0))
+
+none-fits : (report : List ℕ) → Whole 0 report
+none-fits report = (omega arith, omega arith)
+
+event-fits : (held : Replay) (store report : List ℕ) (e : Event) → length (held .table .places) ≡ placeCount
+    → Whole (stepOf held store report e .answer .records) (reportAfter (replayOf held store report) e (stepOf held store report e .answer))
+unfolding step
+event-fits held store report (Opening timer time) n = none-fits report
+event-fits held store report (Segment association s) n =
+    segment-by (λ (o : Reception). Whole (o .answer .records) (o .report)) (held .table) store report association s
+    (λ e.
+    let room = arrived (held .table) store report association s e .reports in
+    let one : receivedAt (held .table) store report association s .answer .records ≤ 1 = effect-one _ (held .table) store _ _ _ _ _ _ in
+    (omega arith, rw splice-length (omega arith)))
+    (λ e. none-fits report)
+event-fits held store report (Clock time) n =
+    clock-by (λ (o : Sweeping). Whole (o .answer .records) (o .report)) (held .table) report time
+    (λ e. sweep-fits _ 6 time (held .table) report n (clock-room (held .table) report time e))
+    (λ e. none-fits report)
+event-fits held store report (Release association) n =
+    release-by (λ (o : Sweeping). Whole (o .answer .records) (o .report)) (held .table) report association
+    (λ e. sweep-fits _ 7 (held .table .clock) (held .table) report n (release-room (held .table) report e))
+    (λ e. none-fits report)
+
+-- what owning a replay tells: its table has 16 places
+pub places-held : (held : Replay) → Is (row the-type) held (val the-type the-laws held ∷ []) → length (held .table .places) ≡ placeCount
+places-held held g = simp length-map at (g .1 .1 .1 .1 .0 .1 .1 .0 .1 .0 .1)
+
+pub answer-fits : (held : Replay) (store report : List ℕ) (e : Event) (answer : Received) (store′ report′ : List ℕ) → length (held .table .places) ≡ placeCount
+    → OfEvent held store report e answer store′ report′ → Whole (answer .records) report′
+answer-fits held store report e answer store′ report′ n p = rw (p .answered, p .reported) (event-fits held store report e n)

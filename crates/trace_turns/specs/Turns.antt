@@ -1,0 +1,113 @@
+-- A trace as the code walks over it: what the record at the front of an input does.
+use Prim.Native.Nat.{ℕ, _+_, _*_, _≤_}
+use mathlib.Core.Path.{_≡_}
+use mathlib.Core.Bool.{Bool, not, _||_}
+use mathlib.Core.List.{List, [], _∷_}
+use lib.Dec.{ltb}
+use lib.ListN.{length, take}
+use Rattle.rules.specs.General.{if_then_else_}
+use Rattle.rules.specs.Numbers.{placeCount}
+use Rattle.rules.specs.Records.{recordLength}
+use Rattle.rules.specs.Calls.{Outcome}
+use Rattle.rules.specs.Trace.{Event, Opening, Segment, Clock, Release, Item, Registers, Happens, Stops, Sight, sightOf, isKnown, bodyLength, itemOf, isOpening, reportAfter}
+use Rattle.rules.specs.Listing.{decisionIn}
+use Rattle.trace_items.specs.declared.Happening.{Happening}
+use Rattle.trace_events.specs.Events.{replayOf, stepOf, keeping}
+use Rattle.trace_events.specs.declared.Replay.{Replay}
+use Rattle.trace_turns.specs.declared.Met.{Met}
+use Rattle.trace_turns.specs.declared.Met.the-variants as met
+use Rattle.trace_turns.specs.declared.Walk.{Walk}
+
+-- what the front of an input is met as
+pub data Front : Type 0 where
+  Waiting : Front
+  Stopping : Front
+  Registering : Front
+  Seeing : Sight → Front
+
+-- what is done with it: what is held then, and how many octets are used
+pub record Walked : Type 0 where
+  pub front : Front
+  pub held : Replay
+  pub store : List ℕ
+  pub report : List ℕ
+  pub used : ℕ
+
+-- what the code says of an event: its kind, and its answer but for the table and the areas
+abbrev pub kindOf : Event → ℕ
+kindOf (Opening timer time) = 32
+kindOf (Segment association s) = 33
+kindOf (Clock time) = 34
+kindOf (Release association) = 35
+
+abbrev pub happeningOf : Event → Outcome → Happening
+happeningOf e o = record { decision = decisionIn (o .answer .decided); kind = kindOf e; refusal = o .answer .refusal; records = o .answer .records }
+
+abbrev pub metOf : Front → Met
+metOf Waiting = met.Waits
+metOf Stopping = met.Stops
+metOf Registering = met.Registers
+metOf (Seeing s) = met.Happens (happeningOf (s .event) (s .outcome))
+
+-- a walk of the code
+pub record OfWalk (want : Walked) (answer : Walk) (store′ report′ : List ℕ) : Type 0 where
+  pub answered : answer ≡ record { replay = want .held; met = metOf (want .front); used = want .used }
+  pub stored : store′ ≡ want .store
+  pub reported : report′ ≡ want .report
+
+-- the records that an event made are whole in the report area
+abbrev pub Fits : Met → List ℕ → Type 0
+Fits met.Waits report = Unit {0}
+Fits met.Stops report = Unit {0}
+Fits met.Registers report = Unit {0}
+Fits (met.Happens h) report = (h .records ≤ placeCount) × (recordLength * h .records ≤ length report)
+
+-- nothing is done and nothing is used
+abbrev pub still : Replay → Met → Walk
+still held m = record { replay = held; met = m; used = 0 }
+
+abbrev pub staying : Front → Replay → List ℕ → List ℕ → Walked
+staying front held store report = record { front = front; held = held; store = store; report = report; used = 0 }
+
+abbrev pub waiting : Replay → List ℕ → List ℕ → Walked
+waiting = staying Waiting
+
+abbrev pub stopping : Replay → List ℕ → List ℕ → Walked
+stopping = staying Stopping
+
+-- a registry record stops after the first open, and is kept before it
+abbrev pub registering : Replay → List ℕ → List ℕ → ℕ → List ℕ → Walked
+registering held store report kind body =
+    if held .begun then stopping held store report else
+    record { front = Registering; held = keeping held kind body; store = store; report = report; used = 3 }
+
+abbrev pub registerOf : Replay → ℕ → List ℕ → Walk
+registerOf held kind body =
+    if held .begun then still held met.Stops else
+    record { replay = keeping held kind body; met = met.Registers; used = 3 }
+
+-- an event, and what is held after its step
+abbrev pub happening : Replay → List ℕ → List ℕ → Event → ℕ → Walked
+happening held store report e used =
+    let o : Outcome = stepOf held store report e in
+    record {
+      front = Seeing (sightOf (replayOf held store report) e);
+      held = record { registry = held .registry; length = held .length; table = o .state .table; begun = held .begun || isOpening e };
+      store = o .state .store;
+      report = reportAfter (replayOf held store report) e (o .answer);
+      used = used;
+    }
+
+abbrev pub atItem : Replay → List ℕ → List ℕ → Item → ℕ → Walked
+atItem held store report (Registers []) used = stopping held store report
+atItem held store report (Registers (kind ∷ body)) used = registering held store report kind body
+atItem held store report (Happens e) used = happening held store report e used
+atItem held store report Stops used = stopping held store report
+
+-- the record at the front; what is no whole record waits for more
+unfoldable pub walked : Replay → List ℕ → List ℕ → List ℕ → Walked
+walked held store report [] = waiting held store report
+walked held store report (kind ∷ l) =
+    if not (isKnown kind) then stopping held store report else
+    if ltb (length l) (bodyLength kind) then waiting held store report else
+    atItem held store report (itemOf kind (take (bodyLength kind) l)) (1 + bodyLength kind)
