@@ -1,4 +1,5 @@
 // The public calls for C. An enum and a returned part do not cross: they cross as numbers, see host_numbers.
+// Their names have the number of the interface (include/egrynnol.h): a host of another one does not link.
 use host_numbers::CDecision;
 use host_numbers::CPart;
 use rules::Opened;
