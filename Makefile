@@ -34,8 +34,9 @@ LIBRARY = target/lib/libegrynnol.a
 # the shared object is linked by gcc, so only where gcc is for x86-64, as the library is
 SHARED := $(if $(filter x86_64,$(shell uname -m)),target/lib/$(SONAME))
 PRODUCTS = $(PROGRAMS) $(LIBRARY) $(SHARED)
-# made last: without it nothing counts as built
+# made last, without it nothing counts as built; its time is that of the beginning, so that what is edited meanwhile is newer
 BUILT = target/built
+BEGUN = target/begun
 LOG = target/make.log
 
 SHELL = /bin/bash
@@ -60,6 +61,7 @@ $(BUILT): $(SOURCES)
 	@rm -f $@
 	@$(MAKE) --no-print-directory toolchain
 	@mkdir -p target/lib
+	@touch $(BEGUN)
 	@echo "egrynnol: proving and building; the first time takes minutes; all that rt says is in $(LOG)"
 	@{ rt check $(notdir $(PROGRAMS)) && rt staticlib host; } 2>&1 | tee $(LOG) | tools/progress
 	@cp target/staticlib/libhost.a $(LIBRARY)
@@ -68,7 +70,7 @@ ifneq ($(SHARED),)
 	@gcc -shared -Wl,--whole-archive $(LIBRARY) -Wl,--no-whole-archive -Wl,-soname,$(SONAME) \
 	    -Wl,--version-script,target/lib/exports -Wl,-z,defs -Wl,-z,text -o $(SHARED)
 endif
-	@touch $@
+	@mv $(BEGUN) $@
 	@echo "egrynnol: built $(PRODUCTS)"
 
 test: | toolchain
