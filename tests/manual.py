@@ -26,16 +26,20 @@ def prototypes_of_header(text):
     return found
 
 
+def joined(line):
+    """A line of .BI as it is printed: its words, quoted or not, one behind the other."""
+    return "".join(quoted or bare for quoted, bare in re.findall(r'"([^"]*)"|(\S+)', line))
+
+
 def prototypes_of_manual(text):
     synopsis = text[text.index(".SH SYNOPSIS"):text.index(".SH DESCRIPTION")]
     found = {}
     for paragraph in synopsis.split(".PP\n"):
-        lines = [line[len(".BI "):] for line in paragraph.split("\n") if line.startswith(".BI ")]
-        words = squeezed(" ".join("".join(re.findall(r'"([^"]*)"|(\S+)', line) and
-                                          [a or b for a, b in re.findall(r'"([^"]*)"|(\S+)', line)]) for line in lines))
-        name = re.search(r"(egrynnol_\w+)\(", words)
+        lines = [joined(line[len(".BI "):]) for line in paragraph.split("\n") if line.startswith(".BI ")]
+        prototype = squeezed(" ".join(lines)).rstrip(";")
+        name = re.search(r"(egrynnol_\w+)\(", prototype)
         if name:
-            found[name.group(1)] = words.rstrip(";")
+            found[name.group(1)] = prototype
     return found
 
 
