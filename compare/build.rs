@@ -1,4 +1,4 @@
-//! Says where libhost.a is: the directory in EGRYNNOL_LIB, or ../target/staticlib beside this crate.
+//! Says where libegrynnol.a is: the directory in EGRYNNOL_LIB, or ../target/lib beside this crate.
 //! It is compiled for x86-64, so that for another machine nothing is linked (`src/remote.rs`).
 
 use std::env;
@@ -13,8 +13,8 @@ fn main() {
     }
     let home = env::var_os("CARGO_MANIFEST_DIR").expect("cargo sets CARGO_MANIFEST_DIR");
     let home = Path::new(&home);
-    let chosen = env::var_os("EGRYNNOL_LIB").unwrap_or_else(|| "../target/staticlib".into());
+    let chosen = env::var_os("EGRYNNOL_LIB").unwrap_or_else(|| "../target/lib".into());
     let directory: PathBuf = home.join(chosen);
     println!("cargo:rustc-link-search=native={}", directory.display());
-    println!("cargo:rerun-if-changed={}", directory.join("libhost.a").display());
+    println!("cargo:rerun-if-changed={}", directory.join("libegrynnol.a").display());
 }

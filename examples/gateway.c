@@ -5,7 +5,7 @@
  * sequence by the timer and another by a release. It prints each step, checks
  * each answer, and ends with status 1 at the first that is not as expected.
  *
- *   cc -std=c99 -Iinclude examples/gateway.c target/staticlib/libhost.a -o target/gateway && target/gateway
+ *   make && cc -Iinclude examples/gateway.c target/lib/libegrynnol.a -o target/gateway && target/gateway
  */
 #include <stdio.h>
 #include <stdlib.h>
@@ -46,40 +46,25 @@ static void check(int truth, const char *what)
 
 /* ---- Records ---- */
 
-static unsigned two(const uint8_t *at)
+static void print_record(egrynnol_record record)
 {
-    return at[0] * 256u + at[1];
-}
+    unsigned k;
+    int lost = record.kind == EGRYNNOL_KIND_LOST;
 
-static const char *cause_in_words(unsigned cause)
-{
-    static const char *const words[] = {
-        "none", "belongs to nothing", "out of order", "restart", "too many remaining",
-        "too many octets", "timer", "release"
-    };
-    return cause < sizeof words / sizeof *words ? words[cause] : "unknown";
-}
-
-static void print_record(const uint8_t *record)
-{
-    unsigned k, cause = record[EGRYNNOL_AT_CAUSE];
-    int lost = record[EGRYNNOL_AT_KIND] == EGRYNNOL_KIND_LOST;
-
-    check(lost || record[EGRYNNOL_AT_KIND] == EGRYNNOL_KIND_DELIVERED, "the kind of a record");
-    check(record[EGRYNNOL_AT_ORIGIN_LENGTH] <= EGRYNNOL_ADDRESS, "the origin's length in a record");
-    printf("  record: %s, association %u, context %u", lost ? "lost" : "delivered",
-           two(record + EGRYNNOL_AT_ASSOCIATION), two(record + EGRYNNOL_AT_CONTEXT));
-    if (record[EGRYNNOL_AT_REFERENCE] == EGRYNNOL_NO_REFERENCE)
+    check(lost || record.kind == EGRYNNOL_KIND_DELIVERED, "the kind of a record");
+    check(record.origin_length <= EGRYNNOL_ADDRESS, "the origin's length in a record");
+    printf("  record: %s, association %u, context %u", lost ? "lost" : "delivered", record.association,
+           record.context);
+    if (record.reference == EGRYNNOL_NO_REFERENCE)
         printf(", no reference");
     else
-        printf(", reference %u", record[EGRYNNOL_AT_REFERENCE]);
-    printf(", instruction %u", record[EGRYNNOL_AT_INSTRUCTION]);
+        printf(", reference %u", record.reference);
+    printf(", instruction %u", record.instruction);
     if (lost)
-        printf(", cause %u (%s)", cause, cause_in_words(cause));
-    printf(", segments %u, octets %u, origin", record[EGRYNNOL_AT_SEGMENTS],
-           two(record + EGRYNNOL_AT_OCTETS));
-    for (k = 0; k < record[EGRYNNOL_AT_ORIGIN_LENGTH]; k++)
-        printf(" %02X", record[EGRYNNOL_AT_ORIGIN + k]);
+        printf(", cause %u (%s)", record.cause, egrynnol_cause_name(record.cause));
+    printf(", segments %u, octets %u, origin", record.segments, record.octets);
+    for (k = 0; k < record.origin_length; k++)
+        printf(" %02X", record.origin[k]);
     printf("%s\n", k ? "" : " none");
 }
 
@@ -88,14 +73,15 @@ static void print_records(unsigned count)
     unsigned k;
 
     for (k = 0; k < count; k++)
-        print_record(gate.report + k * EGRYNNOL_RECORD);
+        print_record(egrynnol_record_at(gate.report, k));
 }
 
 /* Whether the first record says what happened to so many segments and octets. */
 static int record_says(unsigned kind, unsigned cause, unsigned segments, size_t octets)
 {
-    return gate.report[EGRYNNOL_AT_KIND] == kind && gate.report[EGRYNNOL_AT_CAUSE] == cause
-        && gate.report[EGRYNNOL_AT_SEGMENTS] == segments && two(gate.report + EGRYNNOL_AT_OCTETS) == octets;
+    egrynnol_record record = egrynnol_record_at(gate.report, 0);
+
+    return record.kind == kind && record.cause == cause && record.segments == segments && record.octets == octets;
 }
 
 /* ---- The calls ---- */
@@ -114,9 +100,11 @@ static void open_gate(void)
 static unsigned cut_message(parameter *segments)
 {
     egrynnol_request request = {4, EGRYNNOL_RELEASE_CALL, 5, 24, 20, 0};
+    size_t h = egrynnol_header_length(EGRYNNOL_KIND_2000, request.context, sizeof origin, sizeof destination);
     egrynnol_sent sent;
 
-    printf("cut: %u octets into segments of", (unsigned)message_length);
+    check(h == 8, "the header's length");
+    printf("cut: %u octets behind a header of %u into segments of", (unsigned)message_length, (unsigned)h);
     do {
         parameter *segment = segments + request.number;
         sent = egrynnol_sending(gate.table, request, origin, sizeof origin, destination, sizeof destination,
@@ -140,23 +128,24 @@ static egrynnol_received receive(uint16_t association, const parameter *segment)
 
     gate.table = received.table;
     printf("segment, association %u: ", association);
+    printf("%s", egrynnol_decision_name(received.decision.kind));
     switch (received.decision.kind) {
     case EGRYNNOL_REFUSED:
-        printf("refused, %u\n", received.refusal);
+        printf(", %u (%s)", received.refusal, egrynnol_refusal_name(received.refusal));
         break;
     case EGRYNNOL_SAVED:
-        printf("saved in place %u\n", (unsigned)received.decision.place);
+        printf(" in place %u", (unsigned)received.decision.place);
         break;
     case EGRYNNOL_DELIVERED_PARAMETER:
     case EGRYNNOL_DELIVERED_STORE:
-        printf("delivered\n");
         break;
     case EGRYNNOL_LOST:
-        printf("lost, cause %u (%s)\n", received.decision.cause, cause_in_words(received.decision.cause));
+        printf(", cause %u (%s)", received.decision.cause, egrynnol_cause_name(received.decision.cause));
         break;
     default:
         check(0, "the kind of a decision");
     }
+    printf("\n");
     print_records(received.records);
     return received;
 }
@@ -164,22 +153,20 @@ static egrynnol_received receive(uint16_t association, const parameter *segment)
 /* Takes a delivery, before any other call, and compares it with what was sent. */
 static void take(egrynnol_decision decision, const parameter *segment, const uint8_t *data, size_t length)
 {
-    egrynnol_part part = egrynnol_delivery(decision, segment->octets, segment->length, gate.store, sizeof gate.store);
-    const uint8_t *from = part.source == EGRYNNOL_OF_STORE ? gate.store : segment->octets;
+    egrynnol_taken taken = egrynnol_take(decision, segment->octets, segment->length, gate.store, sizeof gate.store);
 
-    check(part.length == length, "the length of a delivery");
-    check(memcmp(from + part.start, data, length) == 0, "the octets of a delivery");
-    printf("  taken: %u octets of the %s, the same as sent\n", (unsigned)part.length,
-           part.source == EGRYNNOL_OF_STORE ? "store" : "parameter");
+    check(taken.length == length, "the length of a delivery");
+    check(memcmp(taken.octets, data, length) == 0, "the octets of a delivery");
+    printf("  taken: %u octets, the same as sent\n", (unsigned)taken.length);
 }
 
-static unsigned tick(uint32_t time)
+static unsigned tick(uint32_t now)
 {
-    egrynnol_swept swept = egrynnol_clock(gate.table, gate.report, sizeof gate.report, time);
+    egrynnol_swept swept = egrynnol_clock(gate.table, gate.report, sizeof gate.report, now);
 
     check(swept.refusal == EGRYNNOL_GOOD, "the clock is not refused");
     gate.table = swept.table;
-    printf("clock %u: %u lost\n", (unsigned)time, swept.records);
+    printf("clock %u: %u lost\n", (unsigned)now, swept.records);
     print_records(swept.records);
     return swept.records;
 }
@@ -267,6 +254,7 @@ int main(void)
     static parameter segments[EGRYNNOL_SEGMENTS];
     unsigned count;
 
+    printf("egrynnol %s, interface %d\n", EGRYNNOL_VERSION_STRING, EGRYNNOL_INTERFACE);
     open_gate();
     count = cut_message(segments);
     check(count == 3, "the message has three segments");

@@ -7,8 +7,16 @@
  * knows is in the table, which the host holds and hands on from call to call.
  *
  * Structs go by value. A lent area is a pointer and its length in octets.
- * Octets and numbers of the records are described at EGRYNNOL_RECORD.
- * Link with -legrynnol. See egrynnol(3).
+ * The calls are proved; the inline functions at the end of this file are not.
+ * They are plain C over the calls' answers, and tested.
+ *
+ * For x86-64 Linux (the System V convention), and compilers that know gcc's
+ * asm labels, as gcc and clang do. From C89 on, where <stdint.h> is there, and
+ * from C++98 on. Link with -legrynnol. See egrynnol(3), and a page for each
+ * function, as egrynnol_segment(3).
+ *
+ * A call needs under 4 kB of stack, its arguments included: measured, not proved
+ * (docs/PERFORMANCE.md).
  *
  * WHAT THE HOST OWES. The library cannot check these:
  *
@@ -16,14 +24,17 @@
  * - Each length is true: so many octets are there, and may be read, or written
  *   where the pointer is not const.
  * - No pointer is NULL, not even for length 0: give the address of any octet.
- * - One thread at a time for a table and its store.
- * - The table is handed on as the last call left it, whether it was refused or
- *   not. (A table that is not sound is refused; one that is sound but is not
- *   the last one is answered, and wrongly.)
- * - The store is lent to nothing else while a sequence is open, and is not
- *   written by the host between the calls.
- * - A delivery is taken before the next call that gets the store or changes the
- *   parameter. The host takes just the part that egrynnol_delivery answers.
+ * - One call at a time for a table and its store. Different tables with
+ *   different stores may be in calls at the same time: nothing is shared.
+ * - Table and store go together. From its opening on, each call gets the table
+ *   as the last call with it left it, whether that was refused or not, and so
+ *   the store. Nobody else writes the store. What it held at the opening does
+ *   not matter. (A table that is not sound is refused; one that is sound but
+ *   is not the last one is answered, and wrongly.)
+ * - A delivery is asked for before the next call with that table: with the
+ *   decision of the call that delivered, and with the parameter and the store
+ *   as that call left them. Its octets are used, or copied, before that next
+ *   call too. The host takes just the part that egrynnol_delivery answers.
  */
 #ifndef EGRYNNOL_H
 #define EGRYNNOL_H
@@ -36,6 +47,50 @@
 #if __SIZEOF_SIZE_T__ != 8 || __SIZEOF_LONG__ != 8
 #error "egrynnol.h: this library needs an LP64 target (64-bit size_t and long)"
 #endif
+#endif
+
+/* ---- Versions ---- */
+
+#define EGRYNNOL_VERSION_MAJOR 1
+#define EGRYNNOL_VERSION_MINOR 0
+#define EGRYNNOL_VERSION_PATCH 0
+#define EGRYNNOL_VERSION_STRING "1.0.0"
+
+/* One number for #if: 1002003 is 1.2.3. */
+#define EGRYNNOL_VERSION \
+    (EGRYNNOL_VERSION_MAJOR * 1000000 + EGRYNNOL_VERSION_MINOR * 1000 + EGRYNNOL_VERSION_PATCH)
+
+/* The interface: it changes with every layout, call or number in this file that
+ * an older host would misread (docs/MIGRATION.md). It is part of the calls'
+ * symbols, so that a host compiled against another one does not link. */
+#define EGRYNNOL_INTERFACE 1
+
+/* The symbol of a call: EGRYNNOL_SYMBOL("segment") is "egrynnol_1_segment". It is
+ * for dlsym; a host that links uses the calls by their names. */
+#define EGRYNNOL_SYMBOL(call) "egrynnol_" EGRYNNOL_TEXT(EGRYNNOL_INTERFACE) "_" call
+#define EGRYNNOL_TEXT(number) EGRYNNOL_TEXT_OF(number)
+#define EGRYNNOL_TEXT_OF(words) #words
+
+/* ---- Words for the compiler ---- */
+
+/* An answer that is not used is an error of the host's: it has the table to hand
+ * on. The compiler sees that the answer is dropped, and not that its table is. */
+#if defined(__GNUC__)
+#define EGRYNNOL_USE_ANSWER __attribute__((__warn_unused_result__))
+#else
+#define EGRYNNOL_USE_ANSWER
+#endif
+
+/* A call is known to the linker by its symbol. */
+#define EGRYNNOL_CALL(call) __asm__(EGRYNNOL_SYMBOL(call)) EGRYNNOL_USE_ANSWER
+
+/* Inline functions, in every standard, and silent where they are not used. */
+#if defined(__cplusplus) || (defined(__STDC_VERSION__) && __STDC_VERSION__ >= 199901L)
+#define EGRYNNOL_INLINE static inline
+#elif defined(__GNUC__)
+#define EGRYNNOL_INLINE static __inline__
+#else
+#define EGRYNNOL_INLINE static
 #endif
 
 #ifdef __cplusplus
@@ -243,7 +298,7 @@ typedef struct egrynnol_part {
  * zero.
  */
 egrynnol_opened egrynnol_opening(const uint8_t *registry, size_t registry_length,
-                                 uint32_t timer, uint32_t clock);
+                                 uint32_t timer, uint32_t clock) EGRYNNOL_CALL("opening");
 
 /*
  * egrynnol_segment - receives one parameter on an association.
@@ -263,7 +318,8 @@ egrynnol_opened egrynnol_opening(const uint8_t *registry, size_t registry_length
  */
 egrynnol_received egrynnol_segment(egrynnol_table table, uint8_t *store, size_t store_length,
                                    uint8_t *report, size_t report_length, uint16_t association,
-                                   const uint8_t *parameter, size_t parameter_length);
+                                   const uint8_t *parameter, size_t parameter_length)
+    EGRYNNOL_CALL("segment");
 
 /*
  * egrynnol_clock - sets the time and runs the timer.
@@ -278,7 +334,7 @@ egrynnol_received egrynnol_segment(egrynnol_table table, uint8_t *store, size_t 
  * Refusals, in this order: 1, 3, 13.
  */
 egrynnol_swept egrynnol_clock(egrynnol_table table, uint8_t *report, size_t report_length,
-                              uint32_t time);
+                              uint32_t time) EGRYNNOL_CALL("clock");
 
 /*
  * egrynnol_release - ends an association.
@@ -292,30 +348,36 @@ egrynnol_swept egrynnol_clock(egrynnol_table table, uint8_t *report, size_t repo
  * Refusals, in this order: 1, 3.
  */
 egrynnol_swept egrynnol_release(egrynnol_table table, uint8_t *report, size_t report_length,
-                                uint16_t association);
+                                uint16_t association) EGRYNNOL_CALL("release");
 
 /*
  * egrynnol_delivery - where the delivered data is.
  *
  * decision: that of the egrynnol_segment call that delivered. parameter, store:
- * the same areas as in that call, as it left them.
+ * the same areas as in that call, as it left them. When: before the next call
+ * with that table, see above; the place is free then, and a new sequence may
+ * use it. egrynnol_take, below, has the pointer at once.
  *
  * Answers a part of the parameter or a part of the store. Any other decision, or
  * a part not inside the parameter, the store or the place's own 2,048 octets,
- * gives the empty part. Changes nothing, refuses nothing. Take the data before
- * the next call: the place is free, and a new sequence may use it.
+ * gives the empty part. Changes nothing, refuses nothing.
  */
 egrynnol_part egrynnol_delivery(egrynnol_decision decision,
                                 const uint8_t *parameter, size_t parameter_length,
-                                const uint8_t *store, size_t store_length);
+                                const uint8_t *store, size_t store_length) EGRYNNOL_CALL("delivery");
 
 /*
  * egrynnol_sending - writes one segment of data.
  *
  * The table is judged whole (1 where it is not sound), and of a sound one only
- * the registry is used; it is not changed. Call with request.number 0 first: the answer has the count of segments. Then call with
- * 1 to count - 1, all else the same. If it all fits into room1 octets there is
- * one segment, and the reference is not written.
+ * the registry is used; it is not changed. Call with request.number 0 first: the
+ * answer has the count of segments. Then call with 1 to count - 1, all else the
+ * same.
+ *
+ * h is the length of the header without octet 3a: egrynnol_header_length, below.
+ * Data of n octets with h + n up to room1 is one segment, unsegmented, and the
+ * reference is not written. Else the first segment carries room1 - h - 1 octets,
+ * each later one room - h - 1, and the last what is left.
  *
  * Answers the refusal, the count and the length of this segment. The segment goes
  * to the front of area; the rest of area stays. 255 octets are always enough.
@@ -328,7 +390,7 @@ egrynnol_sent egrynnol_sending(egrynnol_table table, egrynnol_request request,
                                const uint8_t *origin, size_t origin_length,
                                const uint8_t *destination, size_t destination_length,
                                const uint8_t *data, size_t data_length,
-                               uint8_t *area, size_t area_length);
+                               uint8_t *area, size_t area_length) EGRYNNOL_CALL("sending");
 
 /* ---- The layout that the library was built with, checked by the compiler ----
  * A negative array size here means that this compiler lays the structs out
@@ -376,6 +438,168 @@ EGRYNNOL_CHECK(part, sizeof(egrynnol_part) == 24
                && offsetof(egrynnol_part, source) == 16);
 
 #undef EGRYNNOL_CHECK
+
+/* ---- Inline functions: not proved, tested ---- */
+
+/* A record of a report, in numbers. */
+typedef struct egrynnol_record {
+    unsigned kind;              /* EGRYNNOL_KIND_DELIVERED or EGRYNNOL_KIND_LOST */
+    unsigned association;
+    unsigned context;
+    unsigned reference;         /* 0 to 127, or EGRYNNOL_NO_REFERENCE */
+    unsigned instruction;
+    unsigned cause;             /* enum egrynnol_cause; 0 in Delivered */
+    unsigned segments;          /* covered */
+    unsigned octets;            /* of information, covered */
+    unsigned origin_length;     /* 0 to 20 */
+    uint8_t origin[EGRYNNOL_ADDRESS]; /* zero filled */
+} egrynnol_record;
+
+/*
+ * egrynnol_record_at - record n of a report, from 0 on.
+ *
+ * n is less than the records of the call's answer. It reads 32 octets, from
+ * report + 32 x n on, and asks nothing of them: of octets that are no record of
+ * the library's, kind and origin_length can be anything up to 255.
+ */
+EGRYNNOL_INLINE EGRYNNOL_USE_ANSWER egrynnol_record egrynnol_record_at(const uint8_t *report, size_t n)
+{
+    const uint8_t *from = report + n * EGRYNNOL_RECORD;
+    egrynnol_record record;
+    size_t k;
+
+    record.kind = from[EGRYNNOL_AT_KIND];
+    record.association = from[EGRYNNOL_AT_ASSOCIATION] * 256u + from[EGRYNNOL_AT_ASSOCIATION + 1];
+    record.context = from[EGRYNNOL_AT_CONTEXT] * 256u + from[EGRYNNOL_AT_CONTEXT + 1];
+    record.reference = from[EGRYNNOL_AT_REFERENCE];
+    record.instruction = from[EGRYNNOL_AT_INSTRUCTION];
+    record.cause = from[EGRYNNOL_AT_CAUSE];
+    record.segments = from[EGRYNNOL_AT_SEGMENTS];
+    record.octets = from[EGRYNNOL_AT_OCTETS] * 256u + from[EGRYNNOL_AT_OCTETS + 1];
+    record.origin_length = from[EGRYNNOL_AT_ORIGIN_LENGTH];
+    for (k = 0; k < EGRYNNOL_ADDRESS; k++)
+        record.origin[k] = from[EGRYNNOL_AT_ORIGIN + k];
+    return record;
+}
+
+/* Octets in the host's memory. */
+typedef struct egrynnol_taken {
+    const uint8_t *octets;      /* never NULL */
+    size_t length;
+} egrynnol_taken;
+
+/*
+ * egrynnol_take - egrynnol_delivery's part as a pointer and a length.
+ *
+ * The same arguments, at the same time. Any other decision has length 0.
+ *
+ * EXAMPLE: receive a parameter, hand on the table, take the delivery
+ *
+ *   #include <stdio.h>
+ *   #include "egrynnol.h"
+ *
+ *   static egrynnol_table table;
+ *   static uint8_t store[EGRYNNOL_STORE], report[EGRYNNOL_REPORT_SEGMENT];
+ *
+ *   void arrived(uint16_t association, const uint8_t *parameter, size_t length)
+ *   {
+ *       egrynnol_received got = egrynnol_segment(table, store, sizeof store,
+ *           report, sizeof report, association, parameter, length);
+ *       egrynnol_taken data;
+ *
+ *       table = got.table;
+ *       data = egrynnol_take(got.decision, parameter, length, store, sizeof store);
+ *       printf("%s, %s: %lu octets\n", egrynnol_refusal_name(got.refusal),
+ *           egrynnol_decision_name(got.decision.kind), (unsigned long)data.length);
+ *   }
+ *
+ * END
+ */
+EGRYNNOL_INLINE EGRYNNOL_USE_ANSWER egrynnol_taken egrynnol_take(egrynnol_decision decision,
+                                                                 const uint8_t *parameter, size_t parameter_length,
+                                                                 const uint8_t *store, size_t store_length)
+{
+    egrynnol_part part = egrynnol_delivery(decision, parameter, parameter_length, store, store_length);
+    egrynnol_taken taken;
+
+    taken.octets = (part.source == EGRYNNOL_OF_STORE ? store : parameter) + part.start;
+    taken.length = part.length;
+    return taken;
+}
+
+/*
+ * egrynnol_header_length - h of sending: the header without octet 3a.
+ *
+ * One octet for a context below 128, else two; two more for octets 2 and 3; and
+ * with a context of 2000 both addresses, each with its length octet. kind is the
+ * kind that the context is registered as.
+ */
+EGRYNNOL_INLINE size_t egrynnol_header_length(unsigned kind, unsigned context,
+                                              size_t origin_length, size_t destination_length)
+{
+    size_t h = context < 128 ? 3 : 4;
+
+    if (kind == EGRYNNOL_KIND_2000)
+        h += 2 + origin_length + destination_length;
+    return h;
+}
+
+/* The number's meaning in a few words; "unknown" for a number that has none. */
+
+EGRYNNOL_INLINE const char *egrynnol_refusal_name(unsigned refusal)
+{
+    switch (refusal) {
+    case EGRYNNOL_GOOD: return "not refused";
+    case EGRYNNOL_REFUSAL_TABLE: return "table not sound";
+    case EGRYNNOL_REFUSAL_STORE: return "store too short";
+    case EGRYNNOL_REFUSAL_REPORT: return "report area too short";
+    case EGRYNNOL_REFUSAL_PARAMETER: return "parameter too long";
+    case EGRYNNOL_REFUSAL_CUT: return "parameter ends inside its fields";
+    case EGRYNNOL_REFUSAL_EXTENSION: return "octet 1a, 2 or 3a has extension 0";
+    case EGRYNNOL_REFUSAL_OCTET_3A: return "octet 3a present or absent wrongly";
+    case EGRYNNOL_REFUSAL_CONTEXT: return "context not registered";
+    case EGRYNNOL_REFUSAL_ADDRESS: return "address too long";
+    case EGRYNNOL_REFUSAL_FULL: return "no place free";
+    case EGRYNNOL_REFUSAL_REGISTRY: return "registry not good";
+    case EGRYNNOL_REFUSAL_TIMER: return "timer out of range";
+    case EGRYNNOL_REFUSAL_STEP: return "clock step too large";
+    case EGRYNNOL_REFUSAL_DATA: return "data too long";
+    case EGRYNNOL_REFUSAL_ADDRESS_1998: return "address with a context of 1998";
+    case EGRYNNOL_REFUSAL_REFERENCE: return "reference over 127";
+    case EGRYNNOL_REFUSAL_INSTRUCTION: return "instruction over 3";
+    case EGRYNNOL_REFUSAL_ROOM: return "rooms too small or too large";
+    case EGRYNNOL_REFUSAL_NUMBER: return "segment number not below the count";
+    case EGRYNNOL_REFUSAL_AREA: return "area too short";
+    default: return "unknown";
+    }
+}
+
+EGRYNNOL_INLINE const char *egrynnol_cause_name(unsigned cause)
+{
+    switch (cause) {
+    case 0: return "none";
+    case EGRYNNOL_CAUSE_NOT_OPEN: return "not open";
+    case EGRYNNOL_CAUSE_ORDER: return "out of order";
+    case EGRYNNOL_CAUSE_RESTART: return "restart";
+    case EGRYNNOL_CAUSE_REMAINING: return "remaining over 9";
+    case EGRYNNOL_CAUSE_OCTETS: return "too many octets";
+    case EGRYNNOL_CAUSE_TIMER: return "timer";
+    case EGRYNNOL_CAUSE_RELEASE: return "release";
+    default: return "unknown";
+    }
+}
+
+EGRYNNOL_INLINE const char *egrynnol_decision_name(unsigned kind)
+{
+    switch (kind) {
+    case EGRYNNOL_REFUSED: return "refused";
+    case EGRYNNOL_SAVED: return "saved";
+    case EGRYNNOL_DELIVERED_PARAMETER: return "delivered from the parameter";
+    case EGRYNNOL_DELIVERED_STORE: return "delivered from the store";
+    case EGRYNNOL_LOST: return "lost";
+    default: return "unknown";
+    }
+}
 
 #ifdef __cplusplus
 }

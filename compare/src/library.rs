@@ -1,12 +1,15 @@
-//! The proved library, linked as libhost.a. A lent slice goes as a pointer and a length; the
-//! pointer of an empty slice is never null, as Rust has it.
+//! The proved library, linked as libegrynnol.a. A lent slice goes as a pointer and a length; the
+//! pointer of an empty slice is never null, as Rust has it. A symbol has the interface's number,
+//! as in include/egrynnol.h.
 
 use crate::side::Side;
 use model::*;
 
-#[link(name = "host", kind = "static")]
+#[link(name = "egrynnol", kind = "static")]
 extern "C" {
+    #[link_name = "egrynnol_1_opening"]
     pub fn egrynnol_opening(registry: *const u8, length: usize, timer: u32, clock: u32) -> Opened;
+    #[link_name = "egrynnol_1_segment"]
     pub fn egrynnol_segment(
         table: Table,
         store: *mut u8,
@@ -17,13 +20,16 @@ extern "C" {
         parameter: *const u8,
         parameter_length: usize,
     ) -> Received;
+    #[link_name = "egrynnol_1_clock"]
     pub fn egrynnol_clock(table: Table, report: *mut u8, length: usize, time: u32) -> Swept;
+    #[link_name = "egrynnol_1_release"]
     pub fn egrynnol_release(
         table: Table,
         report: *mut u8,
         length: usize,
         association: u16,
     ) -> Swept;
+    #[link_name = "egrynnol_1_delivery"]
     pub fn egrynnol_delivery(
         decision: Decision,
         parameter: *const u8,
@@ -31,6 +37,7 @@ extern "C" {
         store: *const u8,
         store_length: usize,
     ) -> Part;
+    #[link_name = "egrynnol_1_sending"]
     pub fn egrynnol_sending(
         table: Table,
         request: Request,

@@ -79,7 +79,7 @@ pub fn sending(
 pub fn c_opening(registry: &[u8], timer: u32, clock: u32) -> Opened
     ensures { λ r. ⌜ DemandedOpening (now (registry .entry)) timer clock r ⌝ }
 {
-    host::egrynnol_opening(registry, timer, clock)
+    host::egrynnol_1_opening(registry, timer, clock)
 }
 
 // A segment, and the delivery asked for with its answer.
@@ -92,22 +92,22 @@ pub fn c_segment(
 ) -> Handed
     ensures { λ r. ⌜ DemandedC t (now (store .entry)) (now (report .entry)) association (now (s .entry)) r (now (store .exit)) (now (report .exit)) ⌝ }
 {
-    let received = host::egrynnol_segment(t, store, report, association, s);
+    let received = host::egrynnol_1_segment(t, store, report, association, s);
     let decision = received.decision;
-    let part = host::egrynnol_delivery(decision, s, store);
+    let part = host::egrynnol_1_delivery(decision, s, store);
     Handed { received, part }
 }
 
 pub fn c_clock(t: Table, report: &mut [u8], time: u32) -> Swept
     ensures { λ r. ⌜ DemandedClock t (now (report .entry)) time r (now (report .exit)) ⌝ }
 {
-    host::egrynnol_clock(t, report, time)
+    host::egrynnol_1_clock(t, report, time)
 }
 
 pub fn c_release(t: Table, report: &mut [u8], association: u16) -> Swept
     ensures { λ r. ⌜ DemandedRelease t (now (report .entry)) association r (now (report .exit)) ⌝ }
 {
-    host::egrynnol_release(t, report, association)
+    host::egrynnol_1_release(t, report, association)
 }
 
 pub fn c_sending(
@@ -120,7 +120,7 @@ pub fn c_sending(
 ) -> Sent
     ensures { λ r. ⌜ DemandedSending t q (now (origin .entry)) (now (destination .entry)) (now (whole .entry)) (now (area .entry)) r (now (area .exit)) ⌝ }
 {
-    host::egrynnol_sending(t, q, origin, destination, whole, area)
+    host::egrynnol_1_sending(t, q, origin, destination, whole, area)
 }
 
 // THEY COMPOSE: what one leaves is what the next asks for, and nothing is asked of the history.

@@ -1,4 +1,5 @@
 // The public calls for C. An enum and a returned part do not cross: they cross as numbers, see host_numbers.
+// Their names have the number of the interface (include/egrynnol.h): a host of another one does not link.
 use host_numbers::CDecision;
 use host_numbers::CPart;
 use rules::Opened;
@@ -19,7 +20,7 @@ pub struct CReceived {
 
 // Opens a table from registry octets, T and the clock.
 #[no_mangle]
-pub extern "C" fn egrynnol_opening(registry: &[u8], timer: u32, clock: u32) -> Opened
+pub extern "C" fn egrynnol_1_opening(registry: &[u8], timer: u32, clock: u32) -> Opened
     ensures { λ r. ⌜ OfOpening (now (registry .entry)) timer clock r ⌝ }
 {
     opening::opening(registry, timer, clock)
@@ -27,7 +28,7 @@ pub extern "C" fn egrynnol_opening(registry: &[u8], timer: u32, clock: u32) -> O
 
 // A segment arrives.
 #[no_mangle]
-pub extern "C" fn egrynnol_segment(
+pub extern "C" fn egrynnol_1_segment(
     t: Table,
     store: &mut [u8],
     report: &mut [u8],
@@ -49,7 +50,7 @@ pub extern "C" fn egrynnol_segment(
 
 // The clock goes on.
 #[no_mangle]
-pub extern "C" fn egrynnol_clock(t: Table, report: &mut [u8], time: u32) -> Swept
+pub extern "C" fn egrynnol_1_clock(t: Table, report: &mut [u8], time: u32) -> Swept
     ensures { λ r. ⌜ OfClock t (now (report .entry)) time r (now (report .exit)) ⌝ }
 {
     receiver::clock(t, report, time)
@@ -57,7 +58,7 @@ pub extern "C" fn egrynnol_clock(t: Table, report: &mut [u8], time: u32) -> Swep
 
 // An association is released.
 #[no_mangle]
-pub extern "C" fn egrynnol_release(t: Table, report: &mut [u8], association: u16) -> Swept
+pub extern "C" fn egrynnol_1_release(t: Table, report: &mut [u8], association: u16) -> Swept
     ensures { λ r. ⌜ OfRelease t (now (report .entry)) association r (now (report .exit)) ⌝ }
 {
     receiver::release(t, report, association)
@@ -65,7 +66,11 @@ pub extern "C" fn egrynnol_release(t: Table, report: &mut [u8], association: u16
 
 // Where the octets are that a segment delivered.
 #[no_mangle]
-pub extern "C" fn egrynnol_delivery<'a>(decision: CDecision, s: &'a [u8], store: &'a [u8]) -> CPart
+pub extern "C" fn egrynnol_1_delivery<'a>(
+    decision: CDecision,
+    s: &'a [u8],
+    store: &'a [u8],
+) -> CPart
     ensures { λ r. ⌜ HostDelivery decision (now (s .entry)) (now (store .entry)) r ⌝ }
 {
     let d = host_numbers::decision_of(decision);
@@ -75,7 +80,7 @@ pub extern "C" fn egrynnol_delivery<'a>(decision: CDecision, s: &'a [u8], store:
 
 // Writes one segment of the data.
 #[no_mangle]
-pub extern "C" fn egrynnol_sending(
+pub extern "C" fn egrynnol_1_sending(
     t: Table,
     q: Request,
     origin: &[u8],

@@ -1,0 +1,199 @@
+/*
+ * The inline functions of egrynnol.h, which no proof covers: every name, every field of a record, the
+ * header's length beside what sending writes, and a delivery for every kind of decision.
+ * Prints one line; the first thing that is not as expected ends it with status 1.
+ */
+#include <stdio.h>
+#include <stdlib.h>
+#include <string.h>
+
+#include "egrynnol.h"
+
+#define CHECK(truth) check((truth), #truth, __LINE__)
+
+static uint8_t store[EGRYNNOL_STORE];
+static uint8_t report[EGRYNNOL_REPORT_SWEEP];
+
+static void check(int truth, const char *what, int line)
+{
+    if (!truth) {
+        fprintf(stderr, "header.c:%d: not so: %s\n", line, what);
+        exit(1);
+    }
+}
+
+/* Known numbers have names of their own, and every other number has the one answer. */
+static void names(const char *(*name)(unsigned), unsigned first, unsigned last)
+{
+    unsigned a, b;
+
+    for (a = first; a <= last; a++) {
+        CHECK(name(a)[0] != '\0' && strcmp(name(a), "unknown") != 0);
+        for (b = first; b < a; b++)
+            CHECK(strcmp(name(a), name(b)) != 0);
+    }
+    for (a = last + 1; a <= 256; a++)
+        CHECK(strcmp(name(a), "unknown") == 0);
+    CHECK(strcmp(name(~0u), "unknown") == 0);
+}
+
+static void all_names(void)
+{
+    names(egrynnol_refusal_name, EGRYNNOL_GOOD, EGRYNNOL_REFUSAL_AREA);
+    names(egrynnol_cause_name, 0, EGRYNNOL_CAUSE_RELEASE);
+    names(egrynnol_decision_name, EGRYNNOL_REFUSED, EGRYNNOL_LOST);
+    CHECK(strcmp(egrynnol_refusal_name(EGRYNNOL_REFUSAL_FULL), "no place free") == 0);
+    CHECK(strcmp(egrynnol_cause_name(EGRYNNOL_CAUSE_TIMER), "timer") == 0);
+    CHECK(strcmp(egrynnol_decision_name(EGRYNNOL_DELIVERED_STORE), "delivered from the store") == 0);
+}
+
+static void versions(void)
+{
+    char text[40];
+
+    sprintf(text, "%d.%d.%d", EGRYNNOL_VERSION_MAJOR, EGRYNNOL_VERSION_MINOR, EGRYNNOL_VERSION_PATCH);
+    CHECK(strcmp(text, EGRYNNOL_VERSION_STRING) == 0);
+    CHECK(EGRYNNOL_VERSION == EGRYNNOL_VERSION_MAJOR * 1000000 + EGRYNNOL_VERSION_MINOR * 1000 + EGRYNNOL_VERSION_PATCH);
+    sprintf(text, "egrynnol_%d_clock", EGRYNNOL_INTERFACE);
+    CHECK(strcmp(text, EGRYNNOL_SYMBOL("clock")) == 0);
+}
+
+/* Every octet of a record has a number of its own, and the record before it others. */
+static void records(void)
+{
+    egrynnol_record record;
+    unsigned k;
+
+    for (k = 0; k < 2 * EGRYNNOL_RECORD; k++)
+        report[k] = (uint8_t)(200 - k);
+    record = egrynnol_record_at(report, 1);
+    CHECK(record.kind == 168);
+    CHECK(record.association == 167 * 256 + 166);
+    CHECK(record.context == 165 * 256 + 164);
+    CHECK(record.reference == 163);
+    CHECK(record.instruction == 162);
+    CHECK(record.cause == 161);
+    CHECK(record.segments == 160);
+    CHECK(record.octets == 159 * 256 + 158);
+    CHECK(record.origin_length == 157);
+    CHECK(memcmp(record.origin, report + 44, EGRYNNOL_ADDRESS) == 0);
+    CHECK(egrynnol_record_at(report, 0).kind == 200);
+}
+
+static egrynnol_table opened_with(unsigned kind, unsigned context)
+{
+    uint8_t registry[EGRYNNOL_REGISTRY_RECORD];
+    egrynnol_opened opened;
+
+    registry[0] = (uint8_t)kind;
+    registry[1] = (uint8_t)(context / 256);
+    registry[2] = (uint8_t)(context % 256);
+    opened = egrynnol_opening(registry, sizeof registry, 100, 0);
+    CHECK(opened.refusal == EGRYNNOL_GOOD);
+    return opened.table;
+}
+
+/* Three octets of data as one segment: the header and three octets. */
+static void header_length(unsigned kind, unsigned context, size_t origin_length, size_t destination_length)
+{
+    static const uint8_t data[3] = {1, 2, 3}, address[EGRYNNOL_ADDRESS] = {0};
+    uint8_t area[EGRYNNOL_PARAMETER];
+    egrynnol_request request;
+    egrynnol_sent sent;
+    size_t h = egrynnol_header_length(kind, context, origin_length, destination_length);
+
+    request.context = (uint16_t)context;
+    request.instruction = 0;
+    request.reference = 0;
+    request.room1 = h + 3;
+    request.room = EGRYNNOL_PARAMETER;
+    request.number = 0;
+    sent = egrynnol_sending(opened_with(kind, context), request, address, origin_length, address, destination_length,
+                            data, sizeof data, area, sizeof area);
+    CHECK(sent.refusal == EGRYNNOL_GOOD && sent.count == 1 && sent.length == h + 3);
+    request.room1 = h + 2;
+    sent = egrynnol_sending(opened_with(kind, context), request, address, origin_length, address, destination_length,
+                            data, sizeof data, area, sizeof area);
+    CHECK(sent.refusal == EGRYNNOL_GOOD && sent.count == 2 && sent.length == h + 2);
+}
+
+static void header_lengths(void)
+{
+    static const unsigned contexts[] = {1, 3, 127, 128, 300, EGRYNNOL_CONTEXT_MOST};
+    size_t i, o, d;
+
+    for (i = 0; i < sizeof contexts / sizeof contexts[0]; i++) {
+        header_length(EGRYNNOL_KIND_1998, contexts[i], 0, 0);
+        for (o = 0; o <= EGRYNNOL_ADDRESS; o += 5)
+            for (d = 0; d <= EGRYNNOL_ADDRESS; d += 10)
+                header_length(EGRYNNOL_KIND_2000, contexts[i], o, d);
+    }
+}
+
+static egrynnol_received arrives(egrynnol_table *table, const uint8_t *parameter, size_t length)
+{
+    egrynnol_received received =
+        egrynnol_segment(*table, store, sizeof store, report, sizeof report, 9, parameter, length);
+
+    *table = received.table;
+    return received;
+}
+
+static egrynnol_taken take(egrynnol_received received, const uint8_t *parameter, size_t length)
+{
+    return egrynnol_take(received.decision, parameter, length, store, sizeof store);
+}
+
+static void deliveries(void)
+{
+    static const uint8_t whole[] = {0x83, 0x80, 0xC0, 0xAA, 0xBB};
+    static const uint8_t first[] = {0x83, 0x81, 0x41, 0x85, 0xAA};
+    static const uint8_t last[] = {0x83, 0x80, 0x00, 0x85, 0xBB};
+    static const uint8_t other[] = {0x83, 0x81, 0x41, 0x86, 0xCC};
+    static const uint8_t joined[] = {0xAA, 0xBB}, nothing[1] = {0};
+    egrynnol_table table = opened_with(EGRYNNOL_KIND_1998, 3);
+    egrynnol_received received;
+    egrynnol_taken taken;
+    egrynnol_decision made_up = {1, 2, 3, 9, 4};
+
+    received = arrives(&table, whole, sizeof whole);
+    taken = take(received, whole, sizeof whole);
+    CHECK(received.decision.kind == EGRYNNOL_DELIVERED_PARAMETER && taken.octets == whole + 3 && taken.length == 2);
+
+    received = arrives(&table, other, sizeof other);
+    CHECK(received.decision.kind == EGRYNNOL_SAVED && take(received, other, sizeof other).length == 0);
+    received = arrives(&table, first, sizeof first);
+    CHECK(received.decision.kind == EGRYNNOL_SAVED && received.decision.place == 1);
+    received = arrives(&table, last, sizeof last);
+    taken = take(received, last, sizeof last);
+    CHECK(received.decision.kind == EGRYNNOL_DELIVERED_STORE && taken.octets == store + EGRYNNOL_DATA);
+    CHECK(taken.length == sizeof joined && memcmp(taken.octets, joined, sizeof joined) == 0);
+    CHECK(egrynnol_record_at(report, 0).instruction == 1 && egrynnol_record_at(report, 0).octets == 2);
+
+    received = arrives(&table, last, sizeof last);
+    CHECK(received.decision.kind == EGRYNNOL_LOST && take(received, last, sizeof last).length == 0);
+    received = arrives(&table, nothing, 0);
+    taken = take(received, nothing, 0);
+    CHECK(received.decision.kind == EGRYNNOL_REFUSED && taken.length == 0 && taken.octets == nothing);
+    CHECK(egrynnol_take(made_up, whole, sizeof whole, store, sizeof store).length == 0);
+}
+
+/* The calls are functions with addresses, whatever their symbols are. */
+static void addresses(void)
+{
+    egrynnol_swept (*call)(egrynnol_table, uint8_t *, size_t, uint16_t) = &egrynnol_release;
+
+    CHECK(call(opened_with(EGRYNNOL_KIND_1998, 3), report, sizeof report, 9).refusal == EGRYNNOL_GOOD);
+}
+
+int main(void)
+{
+    all_names();
+    versions();
+    records();
+    header_lengths();
+    deliveries();
+    addresses();
+    printf("inline functions: as expected\n");
+    return 0;
+}

@@ -1,0 +1,81 @@
+#!/usr/bin/env python3
+"""The manual page beside the header: every function is in it with the same arguments, and what the host owes is told in the same words."""
+import os
+import re
+import sys
+
+ROOT = os.path.dirname(os.path.dirname(os.path.abspath(__file__)))
+
+
+def read(name):
+    with open(os.path.join(ROOT, name), encoding="utf-8") as file:
+        return file.read()
+
+
+def squeezed(text):
+    return re.sub(r"\s+", " ", text).strip()
+
+
+def prototypes_of_header(text):
+    """Name to prototype, of calls and inline functions."""
+    text = re.sub(r"/\*.*?\*/", "", text, flags=re.S)
+    found = {}
+    pattern = r"^((?:EGRYNNOL_INLINE (?:EGRYNNOL_USE_ANSWER )?)?)([a-z_ ]+[ *]+)(egrynnol_\w+)\(([^)]*)\)\s*(?:EGRYNNOL_CALL|\{)"
+    for _, answer, name, arguments in re.findall(pattern, text, flags=re.M):
+        found[name] = squeezed("%s%s(%s)" % (answer, name, arguments))
+    return found
+
+
+def joined(line):
+    """A line of .BI as it is printed: its words, quoted or not, one behind the other."""
+    return "".join(quoted or bare for quoted, bare in re.findall(r'"([^"]*)"|(\S+)', line))
+
+
+def prototypes_of_manual(text):
+    synopsis = text[text.index(".SH SYNOPSIS"):text.index(".SH DESCRIPTION")]
+    found = {}
+    for paragraph in synopsis.split(".PP\n"):
+        lines = [joined(line[len(".BI "):]) for line in paragraph.split("\n") if line.startswith(".BI ")]
+        prototype = squeezed(" ".join(lines)).rstrip(";")
+        name = re.search(r"(egrynnol_\w+)\(", prototype)
+        if name:
+            found[name.group(1)] = prototype
+    return found
+
+
+def owed_of_header(text):
+    part = text[text.index("WHAT THE HOST OWES."):]
+    part = part[part.index("\n"):part.index("*/")]
+    return [squeezed(item) for item in re.sub(r"\n \* ?", "\n", part).split("\n- ")[1:]]
+
+
+def owed_of_manual(text):
+    part = text[text.index(".SS What the host owes"):text.index(".SS egrynnol_opening")]
+    items = part.split(".IP \\(bu 3\n")[1:]
+    return [squeezed(re.sub(r"^\.B ", "", item, flags=re.M)) for item in items]
+
+
+def main():
+    header, manual = read("include/egrynnol.h"), read("man/egrynnol.3")
+    bad = []
+    ours, theirs = prototypes_of_header(header), prototypes_of_manual(manual)
+    name_section = manual[manual.index(".SH NAME"):manual.index(".SH SYNOPSIS")]
+    for name in sorted(set(ours) | set(theirs)):
+        if ours.get(name) != theirs.get(name):
+            bad.append("%s: the header has %r, the manual %r" % (name, ours.get(name), theirs.get(name)))
+        if not re.search(r"\b%s\b" % name, name_section) or not re.search(r"^\.SS .*\b%s\b" % name, manual, flags=re.M):
+            bad.append("%s: not under NAME, or with no section of its own" % name)
+    told, again = owed_of_header(header), owed_of_manual(manual)
+    if told != again:
+        bad.append("what the host owes is not told in the same words:\n  header %s\n  manual %s" % (told, again))
+    if len(ours) < 12 or len(told) < 6:
+        bad.append("only %d functions and %d duties were found" % (len(ours), len(told)))
+    for line in bad:
+        print("tests/manual.py: " + line, file=sys.stderr)
+    if not bad:
+        print("manual: %d functions and %d duties, as in the header" % (len(ours), len(told)))
+    return 1 if bad else 0
+
+
+if __name__ == "__main__":
+    sys.exit(main())
