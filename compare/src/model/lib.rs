@@ -18,6 +18,7 @@
 mod cursor;
 mod delivery;
 mod fault;
+mod listing;
 mod opening;
 mod receiving;
 mod record;
@@ -34,7 +35,7 @@ mod trace;
 pub use fault::Fault;
 pub use refusal::Refusal;
 pub use shapes::*;
-pub use trace::Replay;
+pub use trace::{Output, Replay};
 
 /// The calls of document 01 are its methods. One that is not breakable has no fault, and the
 /// compiler leaves out whatever the faults need.
