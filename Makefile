@@ -12,13 +12,16 @@ BINDIR = $(DESTDIR)$(PREFIX)/bin
 LIBDIR = $(DESTDIR)$(PREFIX)/lib
 INCLUDEDIR = $(DESTDIR)$(PREFIX)/include
 MANDIR = $(DESTDIR)$(PREFIX)/share/man
+LIBEXECDIR = $(DESTDIR)$(PREFIX)/libexec/egrynnol
+SHAREDIR = $(DESTDIR)$(PREFIX)/share/egrynnol
+COMPLETIONDIR = $(DESTDIR)$(PREFIX)/share/bash-completion/completions
 VERSION = 1.0
 
 # the toolchain that proves and compiles this
 KIT = rattle-kit-5
 
 SOURCES := crates.txt $(shell find crates -type f)
-PROGRAMS = target/bin/replay target/bin/looped
+PROGRAMS = target/bin/replay target/bin/records target/bin/looped
 LIBRARY = target/lib/libegrynnol.a
 
 .PHONY: all toolchain test install uninstall bench peers clean
@@ -30,7 +33,7 @@ toolchain:
 	@case "$$(rt version 2>/dev/null)" in "$(KIT)"*) ;; *) echo "egrynnol: the toolchain is '$$(rt version 2>/dev/null | head -n 1)'; $(KIT) is needed" >&2; exit 1;; esac
 
 $(PROGRAMS) &: $(SOURCES) | toolchain
-	rt check replay looped
+	rt check replay records looped
 	@touch $(PROGRAMS)
 
 $(LIBRARY): $(SOURCES) | toolchain
@@ -42,20 +45,23 @@ test: | toolchain
 	bash .ci/run
 
 install: all
-	install -d $(BINDIR) $(LIBDIR)/pkgconfig $(INCLUDEDIR) $(MANDIR)/man1 $(MANDIR)/man3
-	install -m 755 target/bin/replay $(BINDIR)/replay
-	install -m 755 tools/trace $(BINDIR)/egrynnol-trace
+	install -d $(BINDIR) $(LIBDIR)/pkgconfig $(INCLUDEDIR) $(MANDIR)/man1 $(MANDIR)/man3 $(LIBEXECDIR) $(SHAREDIR)/egrynnol_lib $(COMPLETIONDIR)
+	install -m 755 target/bin/replay target/bin/records $(LIBEXECDIR)
+	install -m 755 tools/egrynnol $(BINDIR)/egrynnol
+	install -m 644 tools/egrynnol_lib/*.py $(SHAREDIR)/egrynnol_lib
+	install -m 644 tools/egrynnol.bash $(COMPLETIONDIR)/egrynnol
 	install -m 644 $(LIBRARY) $(LIBDIR)/libegrynnol.a
 	install -m 644 include/egrynnol.h $(INCLUDEDIR)/egrynnol.h
-	install -m 644 man/replay.1 $(MANDIR)/man1/replay.1
-	install -m 644 man/trace.1 $(MANDIR)/man1/egrynnol-trace.1
+	install -m 644 man/egrynnol.1 man/replay.1 man/records.1 $(MANDIR)/man1
 	install -m 644 man/egrynnol.3 $(MANDIR)/man3/egrynnol.3
 	printf '%s\n' 'prefix=$(PREFIX)' 'Name: egrynnol' 'Description: Application transport of ITU-T Q.765 for signalling gateways' \
 	    'Version: $(VERSION)' 'Libs: -L$${prefix}/lib -legrynnol' 'Cflags: -I$${prefix}/include' > $(LIBDIR)/pkgconfig/egrynnol.pc
 
 uninstall:
-	rm -f $(BINDIR)/replay $(BINDIR)/egrynnol-trace $(LIBDIR)/libegrynnol.a $(LIBDIR)/pkgconfig/egrynnol.pc $(INCLUDEDIR)/egrynnol.h
-	rm -f $(MANDIR)/man1/replay.1 $(MANDIR)/man1/egrynnol-trace.1 $(MANDIR)/man3/egrynnol.3
+	rm -f $(BINDIR)/egrynnol $(LIBDIR)/libegrynnol.a $(LIBDIR)/pkgconfig/egrynnol.pc $(INCLUDEDIR)/egrynnol.h
+	rm -f $(MANDIR)/man1/egrynnol.1 $(MANDIR)/man1/replay.1 $(MANDIR)/man1/records.1 $(MANDIR)/man3/egrynnol.3 $(COMPLETIONDIR)/egrynnol
+	rm -f $(LIBEXECDIR)/replay $(LIBEXECDIR)/records $(SHAREDIR)/egrynnol_lib/*.py
+	rmdir $(LIBEXECDIR) $(SHAREDIR)/egrynnol_lib $(SHAREDIR) 2>/dev/null || true
 
 bench: $(PROGRAMS) $(LIBRARY)
 	cargo run --release --offline --manifest-path compare/Cargo.toml --target-dir target/compare --bin bench

@@ -37,7 +37,7 @@ USAGE = {
 def example(name):
     """An example's trace in octets, and what replay prints of it."""
     there = os.path.join(HERE, "..", "examples", name)
-    octets = subprocess.run([sys.executable, os.path.join(HERE, "..", "tools", "trace"), "encode", there + ".trace"], stdout=subprocess.PIPE, check=True).stdout
+    octets = subprocess.run([os.path.join(HERE, "..", "tools", "egrynnol"), "encode", there + ".trace"], stdout=subprocess.PIPE, check=True).stdout
     with open(there + ".out", "rb") as out:
         return octets, out.read()
 

@@ -19,17 +19,21 @@ MOST = 8            # contexts that a table can have
 HALF = 2 ** 31 - 1  # the longest step of the clock
 GET = "apt-get install -y tshark"
 
-# An ISUP message: parameters are the application transport ones, None for one that the capture has cut.
-Message = collections.namedtuple("Message", "frame time circuit kind points parameters")
+# An ISUP message: parameters are the application transport ones, None for one that is cut; whole: whether none can be missing after them.
+Message = collections.namedtuple("Message", "frame time circuit kind points parameters whole")
 
 
 # ---- tshark ----
+
+def command_for(path, chosen):
+    return ["tshark", "-n", "-r", path, "-T", "pdml", "-J", "frame mtp3 isup", "-Y", "isup && (%s)" % chosen if chosen else "isup"]
+
 
 def packets(path, chosen):
     """tshark's reading of a capture, packet by packet. chosen: a display filter, or None."""
     if not shutil.which("tshark"):
         raise Failed("tshark is not there, and a capture is read by it: %s (as root)" % GET)
-    command = ["tshark", "-n", "-r", path, "-T", "pdml", "-J", "frame mtp3 isup", "-Y", "isup && (%s)" % chosen if chosen else "isup"]
+    command = command_for(path, chosen)
     with tempfile.TemporaryFile() as errors:
         process = subprocess.Popen(command, stdin=None if path == "-" else subprocess.DEVNULL, stdout=subprocess.PIPE, stderr=errors)
         try:
@@ -67,30 +71,25 @@ def packets_of(stream):
 # ---- tshark's fields ----
 
 def messages_of(packet):
-    """The ISUP messages of a packet."""
+    """The ISUP messages of a packet; Bad where tshark's fields are not as it prints them."""
+    try:
+        return list(read_messages(packet))
+    except (KeyError, TypeError, ValueError, decimal.InvalidOperation) as error:
+        raise Bad("tshark printed what is not understood: %s" % error)
+
+
+def read_messages(packet):
     frame, time, points = 0, None, (None, None)
+    ends = {proto.get("name") for proto in packet.iter("proto")} & {"_ws.short", "_ws.malformed"}
     for proto in packet.iter("proto"):
         fields = {field.get("name"): field.get("show") for field in proto.iter("field")}
         if proto.get("name") == "frame":
-            frame, time = number_in(fields, "frame.number"), time_in(fields)
+            frame, time = int(fields["frame.number"]), decimal.Decimal(fields["frame.time_epoch"])
         elif proto.get("name") == "mtp3":
             points = (fields.get("mtp3.opc"), fields.get("mtp3.dpc"))
         elif proto.get("name") == "isup" and "isup.cic" in fields:
-            yield Message(frame, time, number_in(fields, "isup.cic"), number_in(fields, "isup.message_type"), points, list(parameters_of(proto)))
-
-
-def number_in(fields, name):
-    try:
-        return int(fields.get(name, ""), 0)
-    except ValueError:
-        raise Bad("tshark's field %s is %r, and not a number" % (name, fields.get(name)))
-
-
-def time_in(fields):
-    try:
-        return decimal.Decimal(fields.get("frame.time_epoch", ""))
-    except decimal.InvalidOperation:
-        raise Bad("tshark's field frame.time_epoch is %r, and not a number" % fields.get("frame.time_epoch"))
+            yield Message(frame, time, int(fields["isup.cic"]), int(fields["isup.message_type"]), points,
+                          list(parameters_of(proto)), not ends or nothing_after(proto))
 
 
 def parameters_of(proto):
@@ -101,6 +100,12 @@ def parameters_of(proto):
             octets = bytes.fromhex(outer.get("value") or "")
             whole = len(octets) >= 2 and len(octets) == 2 + octets[1]
             yield octets[2:] if whole else None
+
+
+def nothing_after(proto):
+    """Whether the last parameter of a message that was not read to its end reaches up to the octet that ends them all."""
+    reached = [int(field.get("pos")) + int(field.get("size")) for field in proto.findall("field")]
+    return max(reached, default=0) + 1 >= int(proto.get("pos")) + int(proto.get("size"))
 
 
 # ---- a trace of them ----
@@ -203,6 +208,8 @@ class Writer:
         release = message.kind in RELEASES
         if message.parameters or release:
             yield from self.time(message)
+        if not message.whole:
+            yield "# frame %d is not read to its end: the capture has cut it, or tshark cannot read it; parameters may be missing" % message.frame
         for octets in message.parameters:
             if octets is None:
                 yield "# frame %d: a parameter that the capture has cut, left out" % message.frame

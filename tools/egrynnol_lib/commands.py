@@ -2,6 +2,7 @@
 
 import argparse
 import collections
+import contextlib
 import io
 import os
 import re
@@ -61,10 +62,11 @@ def passed_on(program):
     """Work that hands a program's lines on as they are."""
     def work(it, out):
         end = b""
-        for block in programs.printed(program, blocks_of(it.stream)):
-            out.write(block)
-            out.flush()
-            end = (end + block)[-6:]
+        with contextlib.closing(programs.printed(program, blocks_of(it.stream))) as blocks:
+            for block in blocks:
+                out.write(block)
+                out.flush()
+                end = (end + block)[-6:]
         return STOPPED if end in (b"stop\n", b"\nstop\n") else GOOD
     return work
 
@@ -84,14 +86,7 @@ def records(options, out):
 def table_of(line_of):
     """Work that writes a row for each line of records."""
     def work(it, out):
-        status = GOOD
-        for batch in Beside(it).batches():
-            for row, _ in batch:
-                if row:
-                    out.write(line_of(row).encode("utf-8", "surrogateescape"))
-                    status = STOPPED if row.row == "stop" else status
-            out.flush()
-        return status
+        return batch_by_batch(it, out, lambda row, _: [line_of(row)] if row else [])
     return work
 
 
@@ -100,16 +95,21 @@ def explain(options, out):
 
 
 def explained(it, out):
-    teller, status = Teller(it), GOOD
-    for batch in Beside(it).batches():
-        for row, item in batch:
-            for line in teller.lines(row, item):
-                out.write(line.encode("ascii") + b"\n")
-            if row and row.row == "stop":
-                status = STOPPED
-        out.flush()
-    for line in teller.rest():
-        out.write(line.encode("ascii") + b"\n")
+    teller = Teller(it)
+    status = batch_by_batch(it, out, lambda row, item: [line + "\n" for line in teller.lines(row, item)])
+    out.write("".join(line + "\n" for line in teller.rest()).encode("ascii"))
+    return status
+
+
+def batch_by_batch(it, out, lines_of):
+    """Gives a trace to records, and writes the lines of each row and item as they come."""
+    status = GOOD
+    with contextlib.closing(Beside(it).batches()) as batches:
+        for batch in batches:
+            for row, item in batch:
+                out.write("".join(lines_of(row, item)).encode("utf-8", "backslashreplace"))
+                status = STOPPED if row and row.row == "stop" else status
+            out.flush()
     return status
 
 

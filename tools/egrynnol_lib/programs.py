@@ -33,7 +33,7 @@ class Running:
     Nothing waits for anything else: each of the three has its own thread."""
 
     def __init__(self, name, pieces):
-        self.name, self.failure, self.spoke = name, None, False
+        self.name, self.failure, self.spoke, self.given_up = name, None, False, False
         path, pipe = path_of(name), subprocess.PIPE
         try:
             self.process = subprocess.Popen([path], stdin=pipe, stdout=pipe, stderr=pipe, bufsize=0)
@@ -64,11 +64,10 @@ class Running:
             for octets in iter(lambda: stderr.read(BLOCK), b""):
                 self.spoke = True
                 with contextlib.suppress(OSError):
-                    os.write(2, octets)
+                    os.write(2, b"" if self.given_up else octets)
 
     def blocks(self):
-        with self.process.stdout as stdout:
-            yield from iter(lambda: stdout.read(BLOCK), b"")
+        return iter(lambda: self.process.stdout.read(BLOCK), b"")
 
     def end(self):
         """It has printed all it will: did it fail?"""
@@ -83,6 +82,13 @@ class Running:
         if status:
             raise Failed("%s ended with status %d" % (self.name, status))
 
+    def close(self):
+        """Where nobody wants the rest, it ends before it could say that its output is closed."""
+        self.given_up = True
+        self.process.kill()
+        self.process.wait()
+        self.process.stdout.close()
+
 
 def signal_name(number):
     try:
@@ -93,13 +99,9 @@ def signal_name(number):
 
 def printed(name, pieces):
     """What the program prints for these octets, block by block; Failed at the end where it failed."""
-    running = Running(name, pieces)
-    try:
+    with contextlib.closing(Running(name, pieces)) as running:
         yield from running.blocks()
         running.end()
-    finally:
-        running.process.kill()
-        running.process.wait()
 
 
 def lines_printed(name, pieces):

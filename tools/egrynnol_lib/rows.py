@@ -95,11 +95,13 @@ class Beside:
             yield None, self.items.popleft()
 
     def stopped_at(self):
-        if not self.items:
-            raise Failed("records stopped where the trace has no record")
-        item = self.items[0]
-        why = item.record if isinstance(item.record, Bad) else Bad("a registered context after the first open")
-        return item._replace(record=why)
+        """Where the trace is not understood from; its record is why."""
+        item = self.items[0] if self.items else None
+        if item and isinstance(item.record, Bad):
+            return item
+        if item and self.opened and item.record.kind < OPEN:
+            return item._replace(record=Bad("a registered context after the first open"))
+        raise Failed("records stopped where the trace does not")
 
     def placed(self, row, item, event):
         where = self.place_of(item) if item else {}
