@@ -21,7 +21,7 @@ import tempfile
 import time
 import unittest
 
-from running import HERE, ROOT, SUBCOMMANDS, TOOL, TOOLS, Ran, example, examples, octets_of, process, run
+from running import ROOT, SUBCOMMANDS, TOOL, TOOLS, Ran, example, examples, process, run
 from egrynnol_lib import VERSION, programs, rows, streams
 
 SEED = int(os.environ.get("SEED", "765"))

@@ -14,7 +14,7 @@ import tempfile
 import tracemalloc
 import unittest
 
-from running import HERE, example, examples, process, run
+from running import example, examples, process, run
 from egrynnol_lib import commands, streams, traces, words
 
 

@@ -6,6 +6,7 @@ import contextlib
 import io
 import os
 import re
+import signal
 
 from egrynnol_lib import VERSION, programs, streams
 from egrynnol_lib.rows import Beside, csv_head, csv_of, json_of
@@ -427,7 +428,7 @@ def main(folder, stdin, argv):
         return USAGE
     except BrokenPipeError:
         # The reader of our output has gone, as with 'head': nothing to say, nowhere to say it.
-        streams.end_by(streams.signal.SIGPIPE)
+        streams.end_by(signal.SIGPIPE)
     except Failed as error:
         return told_failure("egrynnol: %s" % error)
     except OSError as error:
