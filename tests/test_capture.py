@@ -152,6 +152,11 @@ class Recorded(unittest.TestCase):
         with self.assertRaises(traces.Bad):
             lines_from(b"<pdml></pdml>")
 
+    def test_a_parameter_that_is_cut(self):
+        for old, new in ((b'value="780583814185aa"', b'value="780683814185aa"'), (b'value="780583814185aa"', b'value="78"')):
+            self.assertIn(old, recorded())
+            self.assertIn("# frame 1: a parameter that the capture has cut, left out", lines_from(recorded().replace(old, new)))
+
     def test_damaged_fields(self):
         """Whatever tshark prints: a trace, or Bad."""
         good = recorded()

@@ -164,6 +164,15 @@ class Streams(Folder):
         with open(self.path("out"), "rb") as file:
             self.assertEqual(file.read(), good)
 
+    def test_no_file_gets_the_number_of_a_closed_stream(self):
+        """What is said on standard error must not land in the file that is written."""
+        octets = self.path("octets", b"\x22\0\0\0\7" + b"\x21\0\x09\1\xaa" + b"\x5a" * 254)
+        text = run("decode", octets).out
+        for closed in ("2>&-", "<&- 2>&-", "<&- >&- 2>&-"):
+            self.assertEqual(self.shell('"$TOOL" decode "$PLACE/octets" -o "$PLACE/out" ' + closed).status, 0)
+            with open(self.path("out"), "rb") as file:
+                self.assertEqual(file.read(), text, closed)
+
     def test_closed_pipes(self):
         """Ended by the signal, with nothing said."""
         long = self.path("long", LONG)
@@ -325,6 +334,13 @@ class Programs(Folder):
     def test_anything_on_standard_error(self):
         ran = self.with_program("replay", "cat >/dev/null; echo open 0 0 0 0; printf 'replay: cannot write: x' >&2", "replay")
         self.assertEqual(ran, (2, b"open 0 0 0 0\n", "replay: cannot write: xegrynnol: replay failed: what it printed is not whole\n"))
+
+    def test_a_failure_keeps_the_old_file(self):
+        old = self.path("old", b"precious")
+        ran = self.with_program("replay", "cat >/dev/null; echo open 0 0 0 0; echo replay: cannot read: x >&2", "replay", "-o", old)
+        self.assertEqual((ran.status, ran.err.splitlines()[-1]), (2, old + ": not written"))
+        with open(old, "rb") as file:
+            self.assertEqual(file.read(), b"precious")
 
     def test_ended_by_a_signal(self):
         ran = self.with_program("replay", "kill -SEGV $$", "replay")

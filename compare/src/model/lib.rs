@@ -7,8 +7,8 @@
 //! numbers of a decision, 16 for no place, an empty part as zeros. Two things were changed later by
 //! one who had seen the library's documents and its profile, for measuring: `Machine` without
 //! faults, and a trace that is replayed block by block (`trace`). No rule of a call was. What the
-//! records program prints (`listing`) was added from its format by one who had not read the library's
-//! rules or code.
+//! records program prints (`listing`) was added from its format by one who had read the library's
+//! decisions, and not its rules or code.
 //!
 //! Style. Bits are first read into small types in which only what is good can be written: a
 //! `Cursor` and `?` for the octets, `Position` for octets 3 and 3a, `Line` for the receiving
