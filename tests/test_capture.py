@@ -15,6 +15,8 @@ import sys
 import tempfile
 import unittest
 
+sys.dont_write_bytecode = True
+
 from running import HERE, process, run
 from egrynnol_lib import capture, traces
 

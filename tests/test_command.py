@@ -17,12 +17,15 @@ import shutil
 import signal
 import stat
 import subprocess
+import sys
 import tempfile
 import time
 import unittest
 
+sys.dont_write_bytecode = True
+
 from running import ROOT, SUBCOMMANDS, TOOL, TOOLS, Ran, example, examples, process, run
-from egrynnol_lib import VERSION, programs, rows, streams
+from egrynnol_lib import VERSION, commands, programs, rows, streams
 
 SEED = int(os.environ.get("SEED", "765"))
 RUNS = int(os.environ.get("RUNS", "600"))
@@ -196,6 +199,17 @@ class Streams(Folder):
                     self.assertEqual((it.wait(60), it.stderr.read()), (-number, b""))
         self.assertEqual(os.listdir(self.place), [], "an unfinished file is left")
 
+    def test_interrupted_at_any_time(self):
+        """From the first moment on: ended by the signal, and nothing said."""
+        if subprocess.run(["env", "--block-signal=INT", "true"], stderr=subprocess.DEVNULL).returncode:
+            self.skipTest("env cannot block a signal here")
+        chance = random.Random(SEED)
+        for _ in range(40):
+            it = self.start("replay")
+            time.sleep(chance.random() * 0.15)
+            it.send_signal(signal.SIGINT)
+            self.assertEqual((it.wait(60), it.stderr.read()), (-signal.SIGINT, b""))
+
     def settle(self, it):
         """Until it waits for more input."""
         for _ in range(600):
@@ -273,7 +287,7 @@ class Streams(Folder):
         self.assertEqual(os.listdir(os.fsencode(self.place)), [os.path.basename(name)])
 
     def test_names_of_files_in_any_locale(self):
-        for locale in ("C", "POSIX", "en_US.ISO-8859-1", "none"):
+        for locale in ("C", "POSIX", "C.UTF-8"):
             ran = process("replay", os.fsdecode(b"/none\xc3\xa9"), env=dict(os.environ, LC_ALL=locale, PYTHONIOENCODING="none", PYTHONPATH=self.place))
             self.assertEqual(ran, (2, b"", "/none\u00e9: No such file or directory\n"))
 
@@ -508,19 +522,37 @@ class Help(Folder):
             self.assertIn("\nVERSION = %s\n" % VERSION, file.read())
         self.assertEqual(process("--version"), (0, b"egrynnol %s\n" % VERSION.encode(), ""))
 
+    def test_one_more_is_an_entry_and_a_function(self):
+        def further(options, out):
+            out.write(b"further\n")
+            return commands.STOPPED
+
+        keep = commands.COMMANDS
+        commands.COMMANDS += (commands.Command("further", further, "one more", "More of it.\n", ("out",)),)
+        try:
+            self.assertEqual(run("further"), (3, b"further\n", ""))
+            self.assertIn(b"  further    one more\n", run("--help").out)
+            self.assertIn(b"More of it.", run("further", "--help").out)
+            self.assertEqual(run("further", "x").status, 64)
+        finally:
+            commands.COMMANDS = keep
+
     def complete(self, *words):
         script = 'source "$1"; shift; COMP_WORDS=("$@"); COMP_CWORD=$(($# - 1)); _egrynnol; printf "%s\\n" "${COMPREPLY[@]}"'
         done = subprocess.run(["bash", "-c", script, "bash", os.path.join(TOOLS, "egrynnol.bash"), *words], stdout=subprocess.PIPE, check=True, cwd=self.place)
         return set(done.stdout.decode().split())
 
     def test_completion(self):
-        self.assertEqual(self.complete("egrynnol", ""), set(SUBCOMMANDS) | {"--help", "--version"})
-        self.assertEqual(self.complete("egrynnol", "re"), {"replay", "records"})
+        self.assertEqual(self.complete(TOOL, ""), set(SUBCOMMANDS) | {"--help", "--version"})
+        self.assertEqual(self.complete(TOOL, "re"), {"replay", "records"})
         self.path("a.trace", b"")
-        self.assertEqual(self.complete("egrynnol", "replay", ""), {"a.trace"})
+        self.assertEqual(self.complete(TOOL, "replay", ""), {"a.trace"})
+        self.assertEqual(self.complete(TOOL, "from-pcap", "--tick", ""), set())
         for name in SUBCOMMANDS:
-            options = set(re.findall(r"(?<![-\w])--?[a-z]+", run(name, "--help").out.decode().split("\n\n")[0])) | {"--help"}
-            self.assertEqual(self.complete("egrynnol", name, "-") - {"-h"}, options - {"-h"}, name)
+            parser = commands.parser_of(next(command for command in commands.COMMANDS if command.name == name))
+            options = {words[-1] for words in (action.option_strings for action in parser._actions) if words}
+            self.assertEqual(self.complete(TOOL, name, "-"), options, name)
+        self.assertEqual(self.complete(TOOL, "records", "--j"), {"--json"})
 
 
 class Sweep(Folder):

@@ -9,7 +9,10 @@ import os
 import random
 import re
 import subprocess
+import sys
 import unittest
+
+sys.dont_write_bytecode = True
 
 from running import TOOLS, example, examples, run
 from egrynnol_lib import commands, programs, streams

@@ -10,9 +10,12 @@ import random
 import re
 import stat
 import subprocess
+import sys
 import tempfile
 import tracemalloc
 import unittest
+
+sys.dont_write_bytecode = True
 
 from running import example, examples, process, run
 from egrynnol_lib import commands, streams, traces, words

@@ -5,6 +5,7 @@ import signal
 # An interruption ends this at once, as it ends any Unix tool; who started it with interruptions ignored keeps that.
 if signal.getsignal(signal.SIGINT) is signal.default_int_handler:
     signal.signal(signal.SIGINT, signal.SIG_DFL)
+signal.pthread_sigmask(signal.SIG_UNBLOCK, [signal.SIGINT])  # blocked by who started this
 
 import os
 import sys
