@@ -8,6 +8,7 @@
 import decimal
 import io
 import os
+import random
 import shutil
 import struct
 import subprocess
@@ -17,7 +18,7 @@ import unittest
 
 sys.dont_write_bytecode = True
 
-from running import HERE, process, run
+from running import HERE, TOOL, process, run
 from egrynnol_lib import capture, traces
 
 RECORDED = os.path.join(HERE, "capture.pdml")
@@ -171,6 +172,21 @@ class Recorded(unittest.TestCase):
                 pass
 
 
+    def test_damage_at_random(self):
+        """Nothing but a trace or Bad, whatever octets are changed."""
+        chance, seen = random.Random(765), set()
+        for _ in range(300):
+            octets = bytearray(recorded())
+            for _ in range(chance.choice([1, 1, 3, 20])):
+                at = chance.randrange(len(octets))
+                octets[at:at + chance.choice([0, 1, 1, 30])] = bytes(chance.choice(b'"<>/ 09azAZ=\0\xff') for _ in range(chance.choice([0, 1, 2])))
+            try:
+                seen.add(bool(lines_from(bytes(octets))))
+            except traces.Bad:
+                seen.add(False)
+        self.assertEqual(seen, {True, False})
+
+
 class Whole(unittest.TestCase):
 
     def setUp(self):
@@ -197,6 +213,27 @@ class Whole(unittest.TestCase):
         self.assertEqual([line.split()[0] for line in one.out.decode().splitlines() if line[:1] not in ("", "#")], ["context", "open", "segment"])
 
     @unittest.skipUnless(shutil.which("tshark"), "no tshark here")
+    def test_a_pipe(self):
+        done = subprocess.run(["bash", "-c", '"$0" from-pcap <(cat T)', TOOL], stdout=subprocess.PIPE, stderr=subprocess.PIPE, cwd=self.place)
+        self.assertEqual((done.returncode, done.stdout.decode().split("\n")[1:], done.stderr), (0, TRACE.split("\n")[1:], b""))
+        closed = subprocess.run(["bash", "-c", '"$0" from-pcap - <&-', TOOL], stdout=subprocess.PIPE, stderr=subprocess.PIPE)
+        self.assertEqual((closed.returncode, closed.stderr), (2, b"standard input: Bad file descriptor\n"))
+
+    @unittest.skipUnless(shutil.which("tshark"), "no tshark here")
+    def test_damaged_captures(self):
+        chance = random.Random(765)
+        for _ in range(8):
+            octets = bytearray(pcap())
+            for _ in range(chance.choice([1, 5, 40])):
+                octets[chance.randrange(len(octets))] = chance.randrange(256)
+            with open(self.path, "wb") as file:
+                file.write(octets[:chance.choice([len(octets), 100, 300])])
+            ran = run("from-pcap", self.path)
+            self.assertIn(ran.status, (0, 1))
+            self.assertNotRegex(ran.err, "Traceback|fault of its own")
+            self.assertEqual(ran.err.count("\n"), ran.status, ran.err)
+
+    @unittest.skipUnless(shutil.which("tshark"), "no tshark here")
     def test_captures_that_are_none(self):
         for octets, status in ((b"", 1), (b"no capture at all", 1), (pcap()[:-3], 1), (pcap()[:24], 1)):
             with open(self.path, "wb") as file:
@@ -208,12 +245,8 @@ class Whole(unittest.TestCase):
 
 
 def record():
-    with tempfile.TemporaryDirectory() as place:
-        path = os.path.join(place, "T")
-        with open(path, "wb") as file:
-            file.write(pcap())
-        with open(RECORDED, "wb") as out:
-            subprocess.run(capture.command_for("T", None), stdout=out, stderr=subprocess.DEVNULL, check=True, cwd=place)
+    with open(RECORDED, "wb") as out:
+        subprocess.run(capture.command_for(None), input=pcap(), stdout=out, stderr=subprocess.DEVNULL, check=True)
 
 
 if __name__ == "__main__":

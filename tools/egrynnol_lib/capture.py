@@ -2,13 +2,16 @@
 
 import collections
 import decimal
+import errno
 import os
+import re
 import shutil
+import stat
 import subprocess
 import tempfile
 import xml.etree.ElementTree as tree
 
-from egrynnol_lib.streams import Failed, fit
+from egrynnol_lib.streams import Failed, fit, opened
 from egrynnol_lib.traces import SEGMENT, Bad, Record, text_of
 from egrynnol_lib.words import Ends, Reading, count
 
@@ -25,22 +28,22 @@ Message = collections.namedtuple("Message", "frame time circuit kind points para
 
 # ---- tshark ----
 
-def command_for(path, chosen):
-    return ["tshark", "-n", "-r", path, "-T", "pdml", "-J", "frame mtp3 isup", "-Y", "isup && (%s)" % chosen if chosen else "isup"]
+def command_for(chosen):
+    """tshark on standard input. chosen: a display filter, or None."""
+    return ["tshark", "-n", "-r", "-", "-T", "pdml", "-J", "frame mtp3 isup", "-Y", "isup && (%s)" % chosen if chosen else "isup"]
 
 
-def packets(path, chosen):
-    """tshark's reading of a capture, packet by packet. chosen: a display filter, or None."""
+def packets(handle, chosen):
+    """tshark's reading of an open capture, packet by packet."""
     if not shutil.which("tshark"):
         raise Failed("tshark is not there, and a capture is read by it: %s (as root)" % GET)
-    command = command_for(path, chosen)
     with tempfile.TemporaryFile() as errors:
-        process = subprocess.Popen(command, stdin=None if path == "-" else subprocess.DEVNULL, stdout=subprocess.PIPE, stderr=errors)
-        try:
-            yield from packets_of(process.stdout)
-            status = process.wait()
-        finally:
-            process.kill()
+        with subprocess.Popen(command_for(chosen), stdin=handle, stdout=subprocess.PIPE, stderr=errors) as process:
+            try:
+                yield from packets_of(process.stdout)
+                status = process.wait()
+            finally:
+                process.kill()
         if status:
             errors.seek(0)
             raise Bad("tshark: %s" % said(errors.read(4096), status))
@@ -49,7 +52,7 @@ def packets(path, chosen):
 def said(octets, status):
     """tshark's own words, without what it says to root."""
     lines = octets.decode("utf-8", "backslashreplace").split("\n")
-    lines = [line.strip() for line in lines if line.strip() and not line.startswith("Running as user")]
+    lines = [re.sub("^tshark: ", "", line.strip()) for line in lines if line.strip() and not line.startswith("Running as user")]
     return "; ".join(lines) or "it ended with status %d" % status
 
 
@@ -233,14 +236,17 @@ def trace_lines(name, messages, tick, timer):
     """The lines of a text trace; Bad where there is nothing to make one of."""
     messages = list(messages)
     if not any(message.parameters for message in messages):
-        raise Bad("%s: no application transport parameter is in it" % name)
+        raise Bad("no application transport parameter is in it")
     return Writer(name, messages, tick, timer).lines()
 
 
-def from_capture(path, name, chosen, tick, timer):
-    """The same, from a file; tick: a decimal as text."""
-    if path != "-":
-        with open(path, "rb", buffering=0) as file:
-            os.read(file.fileno(), 1)  # so that a file that cannot be read is told as such
-    messages = [message for packet in packets(path, chosen) for message in messages_of(packet)]
-    return trace_lines(fit(name), messages, decimal.Decimal(tick), timer)
+def from_capture(path, chosen, tick, timer):
+    """The same, from a file or standard input; tick: a decimal as text."""
+    with opened(path) as raw:
+        if stat.S_ISDIR(os.fstat(raw.handle).st_mode):
+            raise OSError(errno.EISDIR, os.strerror(errno.EISDIR), path)
+        try:
+            messages = [message for packet in packets(raw.handle, chosen) for message in messages_of(packet)]
+            return trace_lines(fit(raw.name), messages, decimal.Decimal(tick), timer)
+        except Bad as error:
+            raise Bad("%s: %s" % (fit(raw.name), error))

@@ -154,8 +154,7 @@ def decoded(it, out):
 def from_pcap(options, out):
     from egrynnol_lib.capture import from_capture  # here: what it needs takes long to load
 
-    name = options.file if options.file != "-" else streams.STANDARD_INPUT
-    for line in from_capture(options.file, name, options.filter, options.tick, options.timer):
+    for line in from_capture(options.file, options.filter, options.tick, options.timer):
         out.write(line.encode("utf-8", "backslashreplace") + b"\n")
     return GOOD
 
