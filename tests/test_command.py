@@ -19,6 +19,7 @@ import stat
 import subprocess
 import sys
 import tempfile
+import threading
 import time
 import unittest
 
@@ -369,7 +370,8 @@ class Programs(Folder):
         self.assertEqual(self.with_program("replay", "exec <&-; sleep 0.1; echo stop", "replay", data=LONG)[:2], (3, b"stop\n"))
 
     def test_nonsense(self):
-        for line in ("event 1", "open 0 0 0 0", "segment 0 0 0 0 1 -", "open 0 0 0 0 1 -\nopen 0 0 0 0 2 -\nopen 0 0 0 0 3 -", "delivered 1 2", "\\377\\376", "stop", "held 1 2 3"):
+        for line in ("event 1", "open 0 0 0 0", "segment 0 0 0 0 1 -", "open 0 0 0 0 1 -\nopen 0 0 0 0 2 -\nopen 0 0 0 0 3 -", "delivered 1 2", "\\377\\376", "stop", "held 1 2 3",
+                     "delivered 9 3 5 1 0 2 2 -", "open 0 0 0 0 1 refused 5", "open 5 0 0 0 1 -", "open 0 0 0 0 %s -" % ("9" * 5000)):
             for words in (["explain"], ["records", "--json"]):
                 ran = self.with_program("records", "cat >/dev/null; printf '%s\\n'" % line, *words)
                 self.assertEqual(ran.status, 2, line)
@@ -384,6 +386,30 @@ class Programs(Folder):
         out, err = it.communicate(timeout=60)
         self.assertEqual((it.returncode, err), (2, b"standard input: Resource temporarily unavailable\n"))
         self.assertNotIn(b"held", out)
+        os.close(ours)
+        os.close(theirs)
+
+    def test_a_number_is_not_read_from_once_it_may_be_another_file(self):
+        """A program can stop while a thread of ours still reads the trace for it."""
+        ours, theirs = os.pipe()
+        raw = streams.Raw(ours, "T")
+        raw.stop()
+        self.assertRaises(OSError, os.fstat, ours)
+        again = os.dup(theirs)
+        self.assertEqual((again, raw.some(10)), (ours, b""))
+        os.close(again)
+        os.close(theirs)
+        ours, theirs = os.pipe()
+        raw, got = streams.Raw(ours, "T"), []
+        waits = threading.Thread(target=lambda: got.append(raw.some(10)))
+        waits.start()
+        while not raw.reading:
+            time.sleep(0.01)
+        raw.stop()
+        os.fstat(ours)
+        os.write(theirs, b"x")
+        waits.join(60)
+        self.assertEqual((got, raw.some(10)), ([b"x"], b""))
         os.close(ours)
         os.close(theirs)
 

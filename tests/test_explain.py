@@ -15,7 +15,7 @@ import unittest
 sys.dont_write_bytecode = True
 
 from running import TOOLS, example, examples, run
-from egrynnol_lib import commands, programs, streams
+from egrynnol_lib import commands, programs, rows, streams, words
 
 SEED = int(os.environ.get("SEED", "765"))
 RUNS = int(os.environ.get("RUNS", "1000"))
@@ -157,6 +157,25 @@ class Agrees(unittest.TestCase):
         wanted = {"refused %d" % number for number in (1, 5, 6, 7, 8, 9, 10, 11, 12, 13)} | {"cause %d" % number for number in (1, 2, 3, 4, 6, 7)}
         wanted |= {"saved in place 15", "dropped", "held", "stop,", "    delivered"}
         self.assertEqual(wanted - met if RUNS >= 1000 else set(), set(), "not met")
+
+    def test_nothing_vanishes(self):
+        """Every segment that was not refused, and each of its octets, is delivered, lost, dropped or held."""
+        chance, kinds = random.Random(SEED + 1), set()
+        for _ in range(RUNS // 3):
+            octets = some_trace(chance)
+            trace = streams.Trace("T", io.BufferedReader(io.BytesIO(octets)), None)
+            registry, taken, told = words.Registry(), [0, 0], [0, 0]
+            for row, item in (pair for batch in rows.Beside(trace).batches() for pair in batch):
+                if row is None:
+                    registry.add(item.record.numbers[0], item.record.kind)
+                elif row.name == "segment" and row.decision != "refused":
+                    reading = words.read_alone(item.record.octets, registry)
+                    taken = [taken[0] + 1, taken[1] + len(item.record.octets) - reading.at]
+                elif row.segments is not None:
+                    told = [told[0] + row.segments, told[1] + row.octets]
+                    kinds.add(row.row)
+            self.assertEqual(taken, told, octets.hex())
+        self.assertEqual(kinds, {"delivered", "lost", "dropped", "held"})
 
     def test_words_that_are_changed_are_found(self):
         octets = run("encode", example("callback")).out

@@ -6,6 +6,7 @@ import contextlib
 import io
 import os
 import re
+import shlex
 import signal
 
 from egrynnol_lib import VERSION, programs, streams
@@ -356,7 +357,7 @@ def parser_of(command):
 
 def top_parser(typed):
     listed = "".join("  %-10s %s\n" % (command.name, command.what) for command in COMMANDS)
-    parser = Parser(prog="egrynnol", usage="egrynnol [-h] [--version] SUBCOMMAND ...", description=TOP % (listed, typed), allow_abbrev=False,
+    parser = Parser(prog="egrynnol", usage="egrynnol [-h] [--version] SUBCOMMAND ...", description=TOP % (listed, shlex.quote(typed)), allow_abbrev=False,
                     formatter_class=argparse.RawDescriptionHelpFormatter)
     parser.add_argument("--version", action=Version, nargs=0, help="show the version and exit")
     return parser

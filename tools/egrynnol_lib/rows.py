@@ -16,8 +16,9 @@ COLUMNS = ("file", "row", "event", "line", "offset", "name", "refusal", "records
 Row = collections.namedtuple("Row", COLUMNS)
 NOTHING = Row(*[None] * len(COLUMNS))
 
-EVENT = re.compile(r"(open|segment|clock|release) (\d+) (\d+) (\d+) (\d+) (\d+) (?:(refused) (\d+)|(saved) (\d+)|(delivered|lost|-))\Z")
-UNDER = re.compile(r"(delivered|lost|dropped|held) (\d+) (\d+) (\d+|-) (\d+) (\d+) (\d+) (\d+) ((?:[0-9A-F]{2})+|-)\Z")
+NUMBER = r"([0-9]{1,19})"
+EVENT = re.compile(r"(open|segment|clock|release) N N N N N (?:(refused) N|(saved) N|(delivered|lost|-))\Z".replace("N", NUMBER))
+UNDER = re.compile(r"(delivered|lost|dropped|held) N N (-|[0-9]{1,19}) N N N N ((?:[0-9A-F]{2})+|-)\Z".replace("N", NUMBER))
 
 
 def row_of(line):
@@ -25,7 +26,9 @@ def row_of(line):
     event, under = EVENT.match(line), UNDER.match(line)
     if event:
         name, *numbers = event.groups()[:6]
-        refused, _, saved, place, other = event.groups()[6:]
+        refused, number, saved, place, other = event.groups()[6:]
+        if numbers[0] != (number or "0"):
+            raise Failed("records printed refusals that differ: %s" % line)
         decision = refused or saved or (other if other != "-" else None)
         numbers = dict(zip(("refusal", "records", "octets_delivered", "octets_lost", "event"), map(int, numbers)))
         return NOTHING._replace(row="event", name=name, decision=decision, place=int(place) if place else None, **numbers)
@@ -77,6 +80,8 @@ class Beside:
                 elif row.row in ("held", "stop"):
                     pairs += self.contexts()
                     event = (self.stopped_at() if row.row == "stop" else None, None)
+                if event is None:
+                    raise Failed("records printed a record before any event: %s" % line)
                 pairs.append((self.placed(row, *event), event[0]))
             yield pairs
         yield list(self.contexts())

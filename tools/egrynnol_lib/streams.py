@@ -8,6 +8,7 @@ import re
 import signal
 import stat
 import tempfile
+import threading
 
 from egrynnol_lib.traces import BLOCK, FORMS, LENGTHS, Bad, spooled
 
@@ -73,15 +74,30 @@ class Raw(io.RawIOBase):
     def __init__(self, handle, name):
         io.RawIOBase.__init__(self)
         self.handle, self.name, self.front = handle, name, b""
+        self.lock, self.reading, self.stopped = threading.Lock(), False, False
 
     def readable(self):
         return True
 
     def some(self, most):
+        with self.lock:
+            if self.stopped:
+                return b""
+            self.reading = True
         try:
             return os.read(self.handle, most)
         except OSError as error:
             raise OSError(error.errno, error.strerror, self.name)
+        finally:
+            self.reading = False
+
+    def stop(self):
+        """No more is read. A handle that a thread waits at stays open: its number must not become another file's."""
+        with self.lock:
+            self.stopped = True
+            waiting = self.reading
+        if not waiting:
+            os.close(self.handle)
 
     def readinto(self, area):
         octets = self.front[:len(area)] or self.some(len(area))
@@ -96,11 +112,11 @@ def opened(path):
     if path in (None, "-"):
         yield Raw(standard(0, STANDARD_INPUT), STANDARD_INPUT)
         return
-    handle = os.open(path, os.O_RDONLY | os.O_CLOEXEC)
+    raw = Raw(os.open(path, os.O_RDONLY | os.O_CLOEXEC), path)
     try:
-        yield Raw(handle, path)
+        yield raw
     finally:
-        os.close(handle)
+        raw.stop()
 
 
 CONTROL = re.compile(rb"[\0-\x08\x0e-\x1f\x7f]")
