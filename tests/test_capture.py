@@ -123,7 +123,14 @@ class Recorded(unittest.TestCase):
 
     def test_long_pauses(self):
         """A step of 2^31 ticks or more is made in steps that are none; the clock runs round."""
-        later = recorded().replace(b"106.000000000", b"5000100.250000000")
+        for days in (100000, 10 ** 7):
+            later = recorded().replace(b'value="106.000000000"', b'value="%d.250000000"' % (100 + days * 86400))
+            clocks = [int(line.split()[1]) for line in lines_from(later) if line.startswith("clock")]
+            self.assertLess(len(clocks), 10)
+            self.assertEqual(clocks[-1], days * 86400000 % 2 ** 32)
+            steps = [(after - before) % 2 ** 32 for before, after in zip(clocks, clocks[1:])]
+            self.assertTrue(all(0 < step < 2 ** 31 for step in steps) and sum(steps) >= 2 ** 32)
+        later = recorded().replace(b'value="106.000000000"', b'value="5000100.250000000"')
         clocks = [line for line in lines_from(later) if line.startswith("clock")]
         self.assertEqual(clocks[-3:], ["clock %d" % ((2750 + 2 ** 31 - 1) % 2 ** 32), "clock %d" % ((2750 + 2 * (2 ** 31 - 1)) % 2 ** 32), "clock %d" % (5000000000 % 2 ** 32)])
 
@@ -164,7 +171,7 @@ class Recorded(unittest.TestCase):
         """Whatever tshark prints: a trace, or Bad."""
         good = recorded()
         for old, new in ((b'show="120"', b'show="121"'), (b"isup.cic", b"isup.cik"), (b'name="isup.cic" showname="CIC: 9" size="2" pos="5" show="9"', b'name="isup.cic" show=""'),
-                         (b'name="frame.time_epoch"', b'name="frame.time_other"'), (b"</pdml>", b""), (b"<packet>", b"<packet"), (b'value="7805', b'value="7806')):
+                         (b'name="timestamp"', b'name="timestomp"'), (b'value="106.000000000"', b'value="nan"'), (b'value="106.000000000"', b'value=""'), (b'value="106.000000000"', b'value="1e99999999"'), (b"</pdml>", b""), (b"<packet>", b"<packet"), (b'value="7805', b'value="7806')):
             self.assertIn(old, good)
             try:
                 self.assertTrue(lines_from(good.replace(old, new)))

@@ -19,7 +19,8 @@ APPLICATION_TRANSPORT = 120
 RELEASES = {12: "REL", 18: "RSC"}  # message types after which nothing of the circuit's call goes on
 GROUP_RESET = 23
 MOST = 8            # contexts that a table can have
-HALF = 2 ** 31 - 1  # the longest step of the clock
+ROUND = 2 ** 32     # the clock runs round
+HALF = 2 ** 31 - 1  # its longest step
 GET = "apt-get install -y tshark"
 
 # An ISUP message: parameters are the application transport ones, None for one that is cut; whole: whether none can be missing after them.
@@ -30,7 +31,7 @@ Message = collections.namedtuple("Message", "frame time circuit kind points para
 
 def command_for(chosen):
     """tshark on standard input. chosen: a display filter, or None."""
-    return ["tshark", "-n", "-r", "-", "-T", "pdml", "-J", "frame mtp3 isup", "-Y", "isup && (%s)" % chosen if chosen else "isup"]
+    return ["tshark", "-n", "-r", "-", "-T", "pdml", "-J", "mtp3 isup", "-Y", "isup && (%s)" % chosen if chosen else "isup"]
 
 
 def packets(handle, chosen):
@@ -77,7 +78,7 @@ def messages_of(packet):
     """The ISUP messages of a packet; Bad where tshark's fields are not as it prints them."""
     try:
         return list(read_messages(packet))
-    except (KeyError, TypeError, ValueError, decimal.InvalidOperation) as error:
+    except (AttributeError, KeyError, TypeError, ValueError) as error:
         raise Bad("tshark printed what is not understood: %s" % error)
 
 
@@ -86,13 +87,19 @@ def read_messages(packet):
     ends = {proto.get("name") for proto in packet.iter("proto")} & {"_ws.short", "_ws.malformed"}
     for proto in packet.iter("proto"):
         fields = {field.get("name"): field.get("show") for field in proto.iter("field")}
-        if proto.get("name") == "frame":
-            frame, time = int(fields["frame.number"]), decimal.Decimal(fields["frame.time_epoch"])
+        if proto.get("name") == "geninfo":
+            frame, time = int(fields["num"]), seconds(proto.find("field[@name='timestamp']").get("value"))
         elif proto.get("name") == "mtp3":
             points = (fields.get("mtp3.opc"), fields.get("mtp3.dpc"))
         elif proto.get("name") == "isup" and "isup.cic" in fields:
             yield Message(frame, time, int(fields["isup.cic"]), int(fields["isup.message_type"]), points,
                           list(parameters_of(proto)), not ends or nothing_after(proto))
+
+
+def seconds(text):
+    if not re.match(r"-?[0-9]{1,12}(\.[0-9]{1,12})?\Z", text):
+        raise ValueError("%r is no time" % text)
+    return decimal.Decimal(text)
 
 
 def parameters_of(proto):
@@ -224,12 +231,18 @@ class Writer:
     def time(self, message):
         """The clock's lines up to a message, in steps that are no steps back."""
         ticks = int((message.time - self.messages[0].time) / self.tick)
-        if ticks < self.ticks:
-            yield "# frame %d is %s earlier than one before it: the clock stays" % (message.frame, count(self.ticks - ticks, "tick"))
-        while self.ticks < ticks:
-            step = min(ticks - self.ticks, HALF)
-            self.ticks += step
-            yield "clock %d" % (self.ticks % 2 ** 32)
+        gap = ticks - self.ticks
+        if gap < 0:
+            yield "# frame %d is %s earlier than one before it: the clock stays" % (message.frame, count(-gap, "tick"))
+            return
+        self.ticks = ticks
+        if gap >= 2 * ROUND:
+            gap = gap % ROUND + ROUND  # T is far below a round of the clock: one more or less is the same
+        while gap:
+            step = min(gap, HALF)
+            gap -= step
+            self.clock = (self.clock + step) % ROUND
+            yield "clock %d" % self.clock
 
 
 def trace_lines(name, messages, tick, timer):
