@@ -182,7 +182,7 @@ class Recorded(unittest.TestCase):
     def test_damage_at_random(self):
         """Nothing but a trace or Bad, whatever octets are changed."""
         chance, seen = random.Random(765), set()
-        for _ in range(300):
+        for _ in range(120):
             octets = bytearray(recorded())
             for _ in range(chance.choice([1, 1, 3, 20])):
                 at = chance.randrange(len(octets))
