@@ -45,21 +45,22 @@ test: | toolchain
 	bash .ci/run
 
 install: all
-	install -d $(BINDIR) $(LIBDIR)/pkgconfig $(INCLUDEDIR) $(MANDIR)/man1 $(MANDIR)/man3 $(LIBEXECDIR) $(SHAREDIR)/egrynnol_lib $(COMPLETIONDIR)
+	install -d $(BINDIR) $(LIBDIR)/pkgconfig $(INCLUDEDIR) $(MANDIR)/man1 $(MANDIR)/man3 $(MANDIR)/man5 $(LIBEXECDIR) $(SHAREDIR)/egrynnol_lib $(COMPLETIONDIR)
 	install -m 755 target/bin/replay target/bin/records $(LIBEXECDIR)
 	install -m 755 tools/egrynnol $(BINDIR)/egrynnol
 	install -m 644 tools/egrynnol_lib/*.py $(SHAREDIR)/egrynnol_lib
 	install -m 644 tools/egrynnol.bash $(COMPLETIONDIR)/egrynnol
 	install -m 644 $(LIBRARY) $(LIBDIR)/libegrynnol.a
 	install -m 644 include/egrynnol.h $(INCLUDEDIR)/egrynnol.h
-	install -m 644 man/egrynnol.1 man/replay.1 man/records.1 $(MANDIR)/man1
+	install -m 644 man/egrynnol.1 $(MANDIR)/man1/egrynnol.1
+	install -m 644 man/egrynnol-trace.5 $(MANDIR)/man5/egrynnol-trace.5
 	install -m 644 man/egrynnol.3 $(MANDIR)/man3/egrynnol.3
 	printf '%s\n' 'prefix=$(PREFIX)' 'Name: egrynnol' 'Description: Application transport of ITU-T Q.765 for signalling gateways' \
 	    'Version: $(VERSION)' 'Libs: -L$${prefix}/lib -legrynnol' 'Cflags: -I$${prefix}/include' > $(LIBDIR)/pkgconfig/egrynnol.pc
 
 uninstall:
 	rm -f $(BINDIR)/egrynnol $(LIBDIR)/libegrynnol.a $(LIBDIR)/pkgconfig/egrynnol.pc $(INCLUDEDIR)/egrynnol.h
-	rm -f $(MANDIR)/man1/egrynnol.1 $(MANDIR)/man1/replay.1 $(MANDIR)/man1/records.1 $(MANDIR)/man3/egrynnol.3 $(COMPLETIONDIR)/egrynnol
+	rm -f $(MANDIR)/man1/egrynnol.1 $(MANDIR)/man3/egrynnol.3 $(MANDIR)/man5/egrynnol-trace.5 $(COMPLETIONDIR)/egrynnol
 	rm -f $(LIBEXECDIR)/replay $(LIBEXECDIR)/records $(SHAREDIR)/egrynnol_lib/*.py
 	rmdir $(LIBEXECDIR) $(SHAREDIR)/egrynnol_lib $(SHAREDIR) 2>/dev/null || true
 

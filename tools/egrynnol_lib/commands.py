@@ -194,13 +194,13 @@ run; 3 the trace ended by 'stop'; 64 the command line is wrong.
 REPLAY = """\
 Runs the proved program replay on each trace and prints its lines: name,
 refusal number or 0, records, octets delivered, octets lost. A last line 'stop'
-says that the trace was not understood from there on. See replay(1).
+says that the trace was not understood from there on. See egrynnol-trace(5).
 """
 
 RECORDS = """\
 Runs the proved program records on each trace. Under the line of each event it
 prints its records, and what an opening drops; at the end what is still held.
-See replay(1).
+See egrynnol-trace(5).
 
 --csv and --json write a table, one row for each line: CSV with a header row,
 JSON with one object a line. The columns are the same: file; row (event,
