@@ -40,8 +40,12 @@ class Running:
         except OSError as error:
             raise Failed("%s cannot be run: %s" % (fit(path), error.strerror))
         self.errors = threading.Thread(target=self.pass_on, daemon=True)
-        self.errors.start()
-        threading.Thread(target=self.feed, args=(pieces,), daemon=True).start()
+        try:
+            self.errors.start()
+            threading.Thread(target=self.feed, args=(pieces,), daemon=True).start()
+        except RuntimeError as error:
+            self.process.kill()
+            raise Failed("%s cannot be run: %s" % (fit(path), error))
 
     def feed(self, pieces):
         stdin = self.process.stdin
@@ -60,11 +64,14 @@ class Running:
 
     def pass_on(self):
         """A program has no exit status: anything here is the sign of failure."""
-        with self.process.stderr as stderr:
-            for octets in iter(lambda: stderr.read(BLOCK), b""):
-                self.spoke = True
-                with contextlib.suppress(OSError):
-                    os.write(2, b"" if self.given_up else octets)
+        try:
+            with self.process.stderr as stderr:
+                for octets in iter(lambda: stderr.read(BLOCK), b""):
+                    self.spoke = True
+                    with contextlib.suppress(OSError):
+                        os.write(2, b"" if self.given_up else octets)
+        except Exception:
+            self.spoke = True  # what it says is not known: that is no better
 
     def blocks(self):
         return iter(lambda: self.process.stdout.read(BLOCK), b"")
