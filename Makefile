@@ -13,6 +13,9 @@ BINDIR = $(DESTDIR)$(PREFIX)/bin
 LIBDIR = $(DESTDIR)$(PREFIX)/lib
 INCLUDEDIR = $(DESTDIR)$(PREFIX)/include
 MANDIR = $(DESTDIR)$(PREFIX)/share/man
+LIBEXECDIR = $(DESTDIR)$(PREFIX)/libexec/egrynnol
+SHAREDIR = $(DESTDIR)$(PREFIX)/share/egrynnol
+COMPLETIONDIR = $(DESTDIR)$(PREFIX)/share/bash-completion/completions
 CMAKEDIR = $(LIBDIR)/cmake/egrynnol
 SONAME = libegrynnol.so.$(INTERFACE)
 
@@ -29,7 +32,7 @@ KIT = rattle-kit-5
 
 # folders too: a file that is gone is seen by its folder's time
 SOURCES := crates.txt include/egrynnol.h $(shell find crates)
-PROGRAMS = target/bin/replay target/bin/looped
+PROGRAMS = target/bin/replay target/bin/records target/bin/looped
 LIBRARY = target/lib/libegrynnol.a
 # the shared object is linked by gcc, so only where gcc is for x86-64, as the library is
 SHARED := $(if $(filter x86_64,$(shell uname -m)),target/lib/$(SONAME))
@@ -77,13 +80,15 @@ test: | toolchain
 	bash .ci/run
 
 install: all
-	install -d $(BINDIR) $(LIBDIR)/pkgconfig $(INCLUDEDIR) $(MANDIR)/man1 $(MANDIR)/man3
-	install -m 755 target/bin/replay $(BINDIR)/replay
-	install -m 755 tools/trace $(BINDIR)/egrynnol-trace
+	install -d $(BINDIR) $(LIBDIR)/pkgconfig $(INCLUDEDIR) $(MANDIR)/man1 $(MANDIR)/man3 $(MANDIR)/man5 $(LIBEXECDIR) $(SHAREDIR)/egrynnol_lib $(COMPLETIONDIR)
+	install -m 755 target/bin/replay target/bin/records $(LIBEXECDIR)
+	install -m 755 tools/egrynnol $(BINDIR)/egrynnol
+	install -m 644 tools/egrynnol_lib/*.py $(SHAREDIR)/egrynnol_lib
+	install -m 644 tools/egrynnol.bash $(COMPLETIONDIR)/egrynnol
 	install -m 644 $(LIBRARY) $(LIBDIR)/libegrynnol.a
 	install -m 644 include/egrynnol.h $(INCLUDEDIR)/egrynnol.h
-	install -m 644 man/replay.1 $(MANDIR)/man1/replay.1
-	install -m 644 man/trace.1 $(MANDIR)/man1/egrynnol-trace.1
+	install -m 644 man/egrynnol.1 $(MANDIR)/man1/egrynnol.1
+	install -m 644 man/egrynnol-trace.5 $(MANDIR)/man5/egrynnol-trace.5
 	install -m 644 man/egrynnol.3 $(MANDIR)/man3/egrynnol.3
 	printf '%s\n' 'prefix=$(PREFIX)' 'Name: egrynnol' 'Description: Application transport of ITU-T Q.765 for signalling gateways' \
 	    'Version: $(VERSION)' 'Libs: -L$${prefix}/lib -legrynnol' 'Cflags: -I$${prefix}/include' > $(LIBDIR)/pkgconfig/egrynnol.pc
@@ -97,8 +102,10 @@ ifneq ($(SHARED),)
 endif
 
 uninstall:
-	rm -f $(BINDIR)/replay $(BINDIR)/egrynnol-trace $(LIBDIR)/libegrynnol.a $(LIBDIR)/pkgconfig/egrynnol.pc $(INCLUDEDIR)/egrynnol.h
-	rm -f $(MANDIR)/man1/replay.1 $(MANDIR)/man1/egrynnol-trace.1 $(MANDIR)/man3/egrynnol.3
+	rm -f $(BINDIR)/egrynnol $(LIBDIR)/libegrynnol.a $(LIBDIR)/pkgconfig/egrynnol.pc $(INCLUDEDIR)/egrynnol.h
+	rm -f $(MANDIR)/man1/egrynnol.1 $(MANDIR)/man3/egrynnol.3 $(MANDIR)/man5/egrynnol-trace.5 $(COMPLETIONDIR)/egrynnol
+	rm -f $(LIBEXECDIR)/replay $(LIBEXECDIR)/records $(SHAREDIR)/egrynnol_lib/*.py
+	rmdir $(LIBEXECDIR) $(SHAREDIR)/egrynnol_lib $(SHAREDIR) 2>/dev/null || true
 	rm -f $(FUNCTIONS:%=$(MANDIR)/man3/%.3) $(LIBDIR)/$(SONAME) $(LIBDIR)/libegrynnol.so
 	rm -rf $(CMAKEDIR)
 

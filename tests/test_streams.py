@@ -1,7 +1,7 @@
 #!/usr/bin/env python3
 """The programs where reading or writing fails, and where they are given arguments: told on standard error, and nothing passed over.
 
-    python3 tests/test_streams.py            REPLAY and LOOPED are the programs; without them, those of target/bin
+    python3 tests/test_streams.py            REPLAY, RECORDS and LOOPED are the programs; without them, those of target/bin
     python3 tests/test_streams.py Answers    one class of tests
 
 A program installs no signal handler, so no signal from outside makes a read or a write of its answer EINTR. In the class Answers the system
@@ -26,27 +26,29 @@ import unittest
 
 HERE = os.path.dirname(os.path.abspath(__file__))
 REPLAY = os.environ.get("REPLAY", os.path.join(HERE, "..", "target", "bin", "replay"))
+RECORDS = os.environ.get("RECORDS", os.path.join(HERE, "..", "target", "bin", "records"))
 LOOPED = os.environ.get("LOOPED", os.path.join(HERE, "..", "target", "bin", "looped"))
 
 USAGE = {
-    "replay": "usage: replay < TRACE\nA trace in octets on standard input; its lines on standard output. See replay(1).\n",
+    "replay": "usage: replay < TRACE\nA trace in octets on standard input; its lines on standard output. See egrynnol(1).\n",
+    "records": "usage: records < TRACE\nA trace in octets on standard input; its events and their records on standard output. See egrynnol(1).\n",
     "looped": "usage: looped < DATA\n",
 }
 
 
 def example(name):
-    """An example's trace in octets, and what replay prints of it."""
+    """An example's trace in octets, and what replay and records print of it."""
     there = os.path.join(HERE, "..", "examples", name)
-    octets = subprocess.run([sys.executable, os.path.join(HERE, "..", "tools", "trace"), "encode", there + ".trace"], stdout=subprocess.PIPE, check=True).stdout
-    with open(there + ".out", "rb") as out:
-        return octets, out.read()
+    octets = subprocess.run([os.path.join(HERE, "..", "tools", "egrynnol"), "encode", there + ".trace"], stdout=subprocess.PIPE, check=True).stdout
+    with open(there + ".out", "rb") as out, open(there + ".records", "rb") as records:
+        return octets, out.read(), records.read()
 
 
-TRACE, LINES = example("origins")
+TRACE, LINES, TOLD = example("origins")
 DATA = bytes(range(256)) * 8
 
 # name, command, good input, what is printed of it
-PROGRAMS = (("replay", REPLAY, TRACE, LINES), ("looped", LOOPED, DATA, DATA))
+PROGRAMS = (("replay", REPLAY, TRACE, LINES), ("records", RECORDS, TRACE, TOLD), ("looped", LOOPED, DATA, DATA))
 
 
 class Streams(unittest.TestCase):
@@ -201,9 +203,11 @@ class Cases(Streams):
                 self.fails(name, "read", errno.EAGAIN, self.run_after(command, b""))
 
     def test_failure_after_a_part(self):
-        """replay has printed the lines of what it read, and no 'stop', even inside a record; looped, which needs all its input, nothing."""
+        """replay has printed the lines of what it read, and no 'stop', even inside a record; nor has records told what is held; looped, which needs all its input, nothing."""
         self.fails("replay", "read", errno.EAGAIN, self.run_after(REPLAY, TRACE), LINES)
         self.fails("replay", "read", errno.EAGAIN, self.run_after(REPLAY, TRACE + b"\x22\x00"), LINES)
+        self.fails("records", "read", errno.EAGAIN, self.run_after(RECORDS, TRACE + b"\x22\x00"), TOLD)
+        self.fails("records", "read", errno.EAGAIN, self.run_after(RECORDS, TRACE[:271]), TOLD[:TOLD.index(b"segment 0 0 0 0 3")])
         self.fails("looped", "read", errno.EAGAIN, self.run_after(LOOPED, DATA[:100]))
 
 
@@ -317,7 +321,7 @@ class Answers(Streams):
 
 
 if __name__ == "__main__":
-    for command in (REPLAY, LOOPED):
+    for command in (REPLAY, RECORDS, LOOPED):
         if not os.access(command, os.X_OK):
-            sys.exit("tests/test_streams.py: no program at %s: build it, or set REPLAY and LOOPED" % command)
+            sys.exit("tests/test_streams.py: no program at %s: build it, or set REPLAY, RECORDS and LOOPED" % command)
     unittest.main()

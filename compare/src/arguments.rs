@@ -13,10 +13,11 @@ compare: the proved library against a second implementation of document 01, call
   --calls N          calls to compare (default 1000000); traces and round trips go along with them,
                      and from 100000 on some short ranges are gone through from end to end
   --replay PATH      the replay program (default ../target/bin/replay beside this crate)
+  --records PATH     the records program (default ../target/bin/records beside this crate)
   --show N           prints the input of call N before it is made
   --calls-only       no traces
   --traces-only      traces alone, as many as --calls would give
-  --against WHAT     library, or model: a plain model in place of library and replay program
+  --against WHAT     library, or model: a plain model in place of library and programs
   --break NAME       breaks the model in one way: a difference has to be found
   --breaks           breaks it in every way, one after the other, and says when each is found
   --list-breaks      the names for --break
@@ -27,6 +28,7 @@ met often enough; 1: otherwise; 2: the command line is wrong.
 ";
 
 const REPLAY: &str = concat!(env!("CARGO_MANIFEST_DIR"), "/../target/bin/replay");
+const RECORDS: &str = concat!(env!("CARGO_MANIFEST_DIR"), "/../target/bin/records");
 
 pub enum Task {
     Help,
@@ -41,6 +43,7 @@ pub struct Arguments {
     pub calls: u64,
     pub show: Option<u64>,
     pub replay: PathBuf,
+    pub records: PathBuf,
     pub against: String,
     pub only_calls: bool,
     pub only_traces: bool,
@@ -54,6 +57,7 @@ impl Arguments {
             calls: 1_000_000,
             show: None,
             replay: REPLAY.into(),
+            records: RECORDS.into(),
             against: "library".into(),
             only_calls: false,
             only_traces: false,
@@ -65,6 +69,7 @@ impl Arguments {
                 "--calls" => arguments.calls = number(&value()?)?,
                 "--show" => arguments.show = Some(number(&value()?)?),
                 "--replay" => arguments.replay = value()?.into(),
+                "--records" => arguments.records = value()?.into(),
                 "--against" => arguments.against = value()?,
                 "--calls-only" => arguments.only_calls = true,
                 "--traces-only" => arguments.only_traces = true,
@@ -87,17 +92,31 @@ impl Arguments {
             "library" if !cfg!(feature = "library") => {
                 Err("built without the library: only --against model is possible".into())
             }
-            "library" if self.only_calls || self.replay.is_file() => Ok(()),
-            "library" => Err(format!(
-                "no replay program at {}: give --replay, or --calls-only",
-                self.replay.display()
-            )),
+            "library" if self.only_calls => Ok(()),
+            "library" => self.check_programs(),
             other => Err(format!("--against {other}: it is library or model")),
         }?;
         match self.only_calls && self.only_traces {
             true => Err("--calls-only and --traces-only leave nothing".into()),
             false => Ok(()),
         }
+    }
+}
+
+impl Arguments {
+    /// The programs that traces are given to.
+    pub fn programs(&self) -> [PathBuf; 2] {
+        [self.replay.clone(), self.records.clone()]
+    }
+
+    fn check_programs(&self) -> Result<(), String> {
+        for (name, path) in [("replay", &self.replay), ("records", &self.records)] {
+            if !path.is_file() {
+                let path = path.display();
+                return Err(format!("no {name} program at {path}: give --{name}, or --calls-only"));
+            }
+        }
+        Ok(())
     }
 }
 

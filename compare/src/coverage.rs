@@ -37,6 +37,9 @@ const LINES: [&str; 10] = [
 /// The refusals that a trace can lead to: its areas and parameters are never too short or long.
 const IN_TRACES: [u8; 11] = [0, 1, 5, 6, 7, 8, 9, 10, 11, 12, 13];
 
+/// What the records program tells under the lines of the events, and after them.
+const UNDER: [&str; 4] = ["delivered", "lost", "dropped", "held"];
+
 /// Counters that are shown and checked together.
 struct Tally {
     title: String,
@@ -100,6 +103,7 @@ pub struct Coverage {
     lengths: Tally,
     trace_lines: Tally,
     trace_ends: Tally,
+    trace_records: Tally,
     trips: Tally,
     trip_counts: Tally,
     pub exhaustive: u64,
@@ -140,6 +144,7 @@ impl Coverage {
             lengths: Tally::seldom("lengths of parameters", (0..=256).chain([257, 300])),
             trace_lines: Tally::seldom("lines of traces by refusal", IN_TRACES),
             trace_ends: Tally::seldom("traces", ["to the end", "stopped"]),
+            trace_records: Tally::seldom("lines under events, by name", UNDER),
             trips: Tally::new("round trips", ["cut by the model", "cut by the library"]),
             trip_counts: Tally::new("round trips, by count of segments", 1..=SEGMENTS),
             exhaustive: 0,
@@ -154,7 +159,7 @@ impl Coverage {
     }
 
     fn of_traces(&self) -> impl Iterator<Item = &Tally> {
-        [&self.trace_lines, &self.trace_ends].into_iter()
+        [&self.trace_lines, &self.trace_ends, &self.trace_records].into_iter()
     }
 
     pub fn calls(&self) -> u64 {
@@ -253,7 +258,11 @@ impl Coverage {
         }
     }
 
-    pub fn count_trace(&mut self, text: &str) {
+    /// The texts of the replay program and of the records program.
+    pub fn count_trace(&mut self, text: &str, records: &str) {
+        let names = records.lines().filter_map(|line| line.split(' ').next());
+        let under = names.filter(|name| UNDER.contains(name));
+        under.for_each(|name| self.trace_records.add_named(name));
         let refusals = text.lines().filter_map(|line| line.split(' ').nth(1));
         refusals.for_each(|refusal| self.trace_lines.add_named(refusal));
         self.trace_ends.add(usize::from(text.ends_with("stop\n")), 1);

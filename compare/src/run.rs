@@ -47,7 +47,7 @@ impl<'a> Run<'a> {
     pub fn new(arguments: &'a Arguments, model: Model) -> Run<'a> {
         let (other, replayer) = match arguments.against.as_str() {
             "model" => (&Model::PLAIN as &dyn Side, Replayer::Model(Model::PLAIN)),
-            _ => (library(), Replayer::Program(arguments.replay.clone())),
+            _ => (library(), Replayer::Programs(arguments.programs())),
         };
         Run { arguments, model, other, replayer, coverage: Coverage::new() }
     }
@@ -130,8 +130,8 @@ impl<'a> Run<'a> {
 
     fn trace(&mut self, random: &mut Random) -> Result<(), String> {
         let trace = traces::trace(random);
-        let text = traces::compare(&self.model, &self.replayer, &trace)?;
-        self.coverage.count_trace(&text);
+        let [lines, records] = traces::compare(&self.model, &self.replayer, &trace)?;
+        self.coverage.count_trace(&lines, &records);
         Ok(())
     }
 }

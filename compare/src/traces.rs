@@ -1,4 +1,4 @@
-//! Random traces, and the text that replaying them gives.
+//! Random traces, and the text that the programs print of them.
 
 use std::io::{Read, Write};
 use std::path::PathBuf;
@@ -12,17 +12,21 @@ use crate::scene;
 use crate::tables;
 use model::*;
 
-/// Who replays: the program, or the model where there is no library to compare with.
+/// The programs' names, and what each prints.
+const PROGRAMS: [(&str, Output); 2] = [("replay", Output::Lines), ("records", Output::Records)];
+
+/// Who replays: the two programs, or the model where there is no library to compare with.
 pub enum Replayer {
-    Program(PathBuf),
+    Programs([PathBuf; 2]),
     Model(Model),
 }
 
 impl Replayer {
-    pub fn replay(&self, trace: &[u8]) -> Result<String, String> {
+    fn printed(&self, trace: &[u8], which: usize) -> Result<String, String> {
         match self {
-            Replayer::Model(model) => Ok(model.replay(trace)),
-            Replayer::Program(path) => {
+            Replayer::Model(model) => Ok(model.printed(trace, PROGRAMS[which].1)),
+            Replayer::Programs(paths) => {
+                let path = &paths[which];
                 run(path, trace).map_err(|error| format!("{}: {error}\n", path.display()))
             }
         }
@@ -34,20 +38,27 @@ fn run(path: &PathBuf, trace: &[u8]) -> Result<String, String> {
     let mut child = Command::new(path)
         .stdin(Stdio::piped())
         .stdout(Stdio::piped())
+        .stderr(Stdio::piped())
         .spawn()
         .map_err(|error| error.to_string())?;
     let mut input = child.stdin.take().ok_or("no standard input")?;
     let mut output = child.stdout.take().ok_or("no standard output")?;
-    let mut text = Vec::new();
+    let mut said = child.stderr.take().ok_or("no standard error")?;
+    let (mut text, mut failure) = (Vec::new(), Vec::new());
     let read = thread::scope(|scope| {
         // A program that stops early closes its input: that is no error here.
         scope.spawn(move || input.write_all(trace).ok());
+        scope.spawn(|| said.read_to_end(&mut failure).ok());
         output.read_to_end(&mut text)
     });
     let status = child.wait().map_err(|error| error.to_string())?;
     read.map_err(|error| error.to_string())?;
     if status.code().is_none() {
         return Err(format!("ended by a signal: {status}"));
+    }
+    if !failure.is_empty() {
+        // The programs have no exit status: this is how they tell that they failed.
+        return Err(format!("on standard error: {}", String::from_utf8_lossy(&failure)));
     }
     Ok(String::from_utf8_lossy(&text).into_owned())
 }
@@ -205,16 +216,26 @@ pub fn trace(random: &mut Random) -> Vec<u8> {
     scribe.trace
 }
 
-/// The model's text and the other side's, line by line.
-pub fn compare(model: &Model, other: &Replayer, trace: &[u8]) -> Result<String, String> {
-    let (left, right) = (model.replay(trace), other.replay(trace)?);
+/// The model's texts and the other side's, line by line: replay's, then records'.
+pub fn compare(model: &Model, other: &Replayer, trace: &[u8]) -> Result<[String; 2], String> {
+    Ok([compare_one(model, other, trace, 0)?, compare_one(model, other, trace, 1)?])
+}
+
+fn compare_one(
+    model: &Model,
+    other: &Replayer,
+    trace: &[u8],
+    which: usize,
+) -> Result<String, String> {
+    let (name, output) = PROGRAMS[which];
+    let (left, right) = (model.printed(trace, output), other.printed(trace, which)?);
     if left == right {
         return Ok(right);
     }
     let same = left.lines().zip(right.lines()).take_while(|(left, right)| left == right).count();
     let line = |text: &str| text.lines().nth(same).unwrap_or("(no line)").to_string();
     Err(format!(
-        "replay differs at line {}\nmodel:   {}\nprogram: {}\ntrace: {}\nmodel's output ends in {:?}, program's in {:?}\n",
+        "{name} differs at line {}\nmodel:   {}\nprogram: {}\ntrace: {}\nmodel's output ends in {:?}, program's in {:?}\n",
         same + 1,
         line(&left),
         line(&right),

@@ -104,14 +104,11 @@ impl Bench {
 
     fn replay(&self) {
         let segments = if self.options.quick { 20_000 } else { 200_000 };
+        let Options { replay, records, quick, .. } = &self.options;
         let name = format!("replay of {segments} segments, as a process");
-        match replay::measure(&self.options.replay, segments, self.options.quick) {
-            Ok(figures) => {
-                let [left, right] = [figures.left, figures.right].map(|time| time / 1e6);
-                print_row(&name, &figures, &format!("{left:.1} ms"), &format!("{right:.1} ms"));
-            }
-            Err(error) => say(&format!("| {name} | left out: {error} | | | |")),
-        }
+        process_row(&name, replay::measure(replay, segments, *quick));
+        let figures = replay::measure_records([records, replay], segments, *quick);
+        process_row(&format!("records / replay of {segments} segments, both proved"), figures);
     }
 
     fn copying(&self) {
@@ -128,6 +125,16 @@ impl Bench {
         for (name, arguments, own) in self.painted.deepest() {
             say(&format!("| {name} | {} | {arguments} |", arguments + own));
         }
+    }
+}
+
+fn process_row(name: &str, figures: Result<Figures, String>) {
+    match figures {
+        Ok(figures) => {
+            let [left, right] = [figures.left, figures.right].map(|time| time / 1e6);
+            print_row(name, &figures, &format!("{left:.1} ms"), &format!("{right:.1} ms"));
+        }
+        Err(error) => say(&format!("| {name} | left out: {error} | | | |")),
     }
 }
 

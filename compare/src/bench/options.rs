@@ -11,6 +11,8 @@ bench: the proved library beside the model, measured in one run on the same call
   --rounds N         rounds of each row (default 2001; with --quick 101)
   --only TEXT        of the calls, only the rows whose name has TEXT in it, and nothing else
   --replay PATH      the replay program (default ../target/bin/replay beside this crate)
+  --records PATH     the records program (default ../target/bin/records beside this crate): its time
+                     is over the replay program's
   --replay-model     replays standard input to standard output by the model, and no more:
                      the process that the replay program is measured beside
   --help             this text
@@ -25,6 +27,7 @@ line is wrong (2) or the two sides answer differently (101), which the compariso
 ";
 
 const REPLAY: &str = concat!(env!("CARGO_MANIFEST_DIR"), "/../target/bin/replay");
+const RECORDS: &str = concat!(env!("CARGO_MANIFEST_DIR"), "/../target/bin/records");
 
 pub enum Task {
     Help,
@@ -38,12 +41,13 @@ pub struct Options {
     pub rounds: usize,
     pub only: Option<String>,
     pub replay: PathBuf,
+    pub records: PathBuf,
 }
 
 impl Options {
     pub fn read(mut words: impl Iterator<Item = String>) -> Result<Options, String> {
         let (mut task, mut quick, mut rounds) = (Task::Measure, false, None);
-        let (mut only, mut replay) = (None, REPLAY.into());
+        let (mut only, mut replay, mut records) = (None, REPLAY.into(), RECORDS.into());
         while let Some(word) = words.next() {
             let mut value = || words.next().ok_or(format!("{word} needs a value"));
             match word.as_str() {
@@ -51,13 +55,14 @@ impl Options {
                 "--rounds" => rounds = Some(number(&value()?)?),
                 "--only" => only = Some(value()?),
                 "--replay" => replay = value()?.into(),
+                "--records" => records = value()?.into(),
                 "--replay-model" => task = Task::ReplayModel,
                 "--help" | "-h" => task = Task::Help,
                 _ => return Err(format!("unknown option {word}")),
             }
         }
         let rounds = rounds.unwrap_or(if quick { 101 } else { 2_001 });
-        Ok(Options { task, quick, rounds, only, replay })
+        Ok(Options { task, quick, rounds, only, replay, records })
     }
 }
 

@@ -1,4 +1,4 @@
-//! The replay program beside a process that replays by the model.
+//! The replay program beside a process that replays by the model, and the records program beside it.
 
 use std::fs::{self, File};
 use std::io::{self, Read, Write};
@@ -30,7 +30,7 @@ pub fn child() -> ExitCode {
 
 /// Block by block: what is left of one, the front of a record, moves to the front of the next.
 fn replay(mut input: impl Read, mut output: impl Write) -> io::Result<()> {
-    let mut replay = Replay::new(Unbroken::PLAIN);
+    let mut replay = Replay::new(Unbroken::PLAIN, Output::Lines);
     let (mut block, mut text) = (vec![0; BLOCK], String::with_capacity(BLOCK));
     let mut have = 0;
     loop {
@@ -68,28 +68,64 @@ impl Drop for Folder {
     }
 }
 
-/// From the start of a process to its end, with a file as its input and another as its output.
+/// The replay program beside the model: from the start of a process to its end, with a file as its
+/// input and another as its output.
 pub fn measure(program: &Path, segments: usize, quick: bool) -> Result<Figures, String> {
-    if !program.is_file() {
-        return Err(format!("there is no replay program at {}", program.display()));
-    }
-    timed(program, segments, quick).map_err(|error| error.to_string())
+    there(program)?;
+    let own = std::env::current_exe().map_err(|error| error.to_string())?;
+    let model = || {
+        let mut command = Command::new(&own);
+        command.arg("--replay-model");
+        command
+    };
+    let same = |left: &[u8], right: &[u8]| left == right;
+    timed([&|| Command::new(program), &model], segments, quick, same)
+        .map_err(|error| error.to_string())
 }
 
-fn timed(program: &Path, segments: usize, quick: bool) -> io::Result<Figures> {
+/// The records program beside the replay program, on the same trace.
+pub fn measure_records(
+    [records, replay]: [&Path; 2],
+    segments: usize,
+    quick: bool,
+) -> Result<Figures, String> {
+    there(records)?;
+    there(replay)?;
+    timed([&|| Command::new(records), &|| Command::new(replay)], segments, quick, begins_with)
+        .map_err(|error| error.to_string())
+}
+
+fn there(program: &Path) -> Result<(), String> {
+    match program.is_file() {
+        true => Ok(()),
+        false => Err(format!("there is no program at {}", program.display())),
+    }
+}
+
+/// Whether the lines of the events begin with the replay program's.
+fn begins_with(records: &[u8], replay: &[u8]) -> bool {
+    let [records, replay] = [records, replay].map(String::from_utf8_lossy);
+    let names = ["open", "segment", "clock", "release"];
+    let events = records.lines().filter(|line| names.iter().any(|name| line.starts_with(name)));
+    let fronts = events.map(|line| line.splitn(6, ' ').take(5).collect::<Vec<_>>().join(" "));
+    fronts.eq(replay.lines().map(String::from))
+}
+
+fn timed(
+    commands: [&dyn Fn() -> Command; 2],
+    segments: usize,
+    quick: bool,
+    alike: impl Fn(&[u8], &[u8]) -> bool,
+) -> io::Result<Figures> {
     let folder = Folder::new()?;
     let input = folder.0.join("trace");
-    let outputs = [folder.0.join("library"), folder.0.join("model")];
+    let outputs = [folder.0.join("left"), folder.0.join("right")];
     fs::write(&input, trace(segments))?;
-    let own = std::env::current_exe()?;
-    let run = |which: usize| match which {
-        0 => run(&mut Command::new(program), &input, &outputs[0]),
-        _ => run(Command::new(&own).arg("--replay-model"), &input, &outputs[1]),
-    };
+    let run = |which: usize| run(&mut commands[which](), &input, &outputs[which]);
     run(0)?;
     run(1)?;
-    let same = fs::read(&outputs[0])? == fs::read(&outputs[1])?;
-    assert!(same, "the replay program and the model print differently");
+    let alike = alike(&fs::read(&outputs[0])?, &fs::read(&outputs[1])?);
+    assert!(alike, "the two processes print differently");
     let mut times = Vec::new();
     for round in 0..if quick { 5 } else { 15 } {
         let first = run(round % 2)?;

@@ -61,4 +61,8 @@ faults! {
     RegistryAfterOpen "registry-after-open" "replay takes registry records after the first open"
     FirstRecordOnly "first-record-only" "replay counts the octets of a call's first record alone"
     CutSilent "cut-without-stop" "replay ends at a cut record without a stop"
+    DroppedUntold "dropped-untold" "records does not tell what an opening drops"
+    HeldUntold "held-untold" "records does not tell what is open at the end"
+    OriginNoLength "origin-without-length" "records prints twenty octets of an origin, whatever its length"
+    ReferenceAlways "reference-255" "records prints 255 for the reference of an unsegmented parameter"
 }

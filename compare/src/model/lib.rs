@@ -6,7 +6,9 @@
 //! come the shapes of the calls (`shapes`) and what its C interface says beyond document 01: the
 //! numbers of a decision, 16 for no place, an empty part as zeros. Two things were changed later by
 //! one who had seen the library's documents and its profile, for measuring: `Machine` without
-//! faults, and a trace that is replayed block by block (`trace`). No rule of a call was.
+//! faults, and a trace that is replayed block by block (`trace`). No rule of a call was. What the
+//! records program prints (`listing`) was added from its format by one who had read the library's
+//! decisions, and not its rules or code.
 //!
 //! Style. Bits are first read into small types in which only what is good can be written: a
 //! `Cursor` and `?` for the octets, `Position` for octets 3 and 3a, `Line` for the receiving
@@ -18,6 +20,7 @@
 mod cursor;
 mod delivery;
 mod fault;
+mod listing;
 mod opening;
 mod receiving;
 mod record;
@@ -34,7 +37,7 @@ mod trace;
 pub use fault::Fault;
 pub use refusal::Refusal;
 pub use shapes::*;
-pub use trace::Replay;
+pub use trace::{Output, Replay};
 
 /// The calls of document 01 are its methods. One that is not breakable has no fault, and the
 /// compiler leaves out whatever the faults need.

@@ -243,6 +243,46 @@ fn replay_stops() {
     assert_eq!(MODEL.replay(&nine), "open 11 0 0 0\n");
 }
 
+fn records(trace: &[Vec<u8>]) -> String {
+    MODEL.printed(&trace.concat(), crate::Output::Records)
+}
+
+/// The example of the format, and an opening that drops, refused or not.
+#[test]
+fn records_lines() {
+    let first = event(&[0x83, 0x81, 0x41, 0x85, 0xAA]);
+    let trace = [
+        vec![1, 0, 3],
+        OPEN.to_vec(),
+        first.clone(),
+        event(&[0x83, 0x80, 0x00, 0x85, 0xBB]),
+        event(&[0x83, 0x80, 0x41, 0x86, 0xCC]),
+        vec![35, 0, 8],
+    ];
+    let expected = "open 0 0 0 0 1 -\nsegment 0 0 0 0 2 saved 0\nsegment 0 1 2 0 3 delivered\n\
+        delivered 9 3 5 1 0 2 2 -\nsegment 0 0 0 0 4 saved 0\nrelease 0 0 0 0 5 -\nheld 9 3 6 0 0 1 1 -\n";
+    assert_eq!(records(&trace), expected);
+    let (zero, cut) = (vec![32; 1], vec![33]);
+    let zero = [zero, vec![0; 8]].concat();
+    let trace = [
+        vec![1, 0, 3, 2, 0, 4],
+        OPEN.to_vec(),
+        event(&[0x84, 0x80, 0x41, 0x85, 2, 0, 7, 0, 0xAA]),
+        first.clone(),
+        zero,
+        first.clone(),
+        OPEN.to_vec(),
+        first,
+        event(&[0x83, 0x82, 0xC0]),
+        cut,
+    ];
+    let expected = "open 0 0 0 0 1 -\nsegment 0 0 0 0 2 saved 0\nsegment 0 0 0 0 3 saved 1\n\
+        open 12 0 0 0 4 refused 12\ndropped 9 4 5 0 0 1 1 0007\ndropped 9 3 5 1 0 1 1 -\n\
+        segment 1 0 0 0 5 refused 1\nopen 0 0 0 0 6 -\nsegment 0 0 0 0 7 saved 0\n\
+        segment 0 1 0 0 8 delivered\ndelivered 9 3 - 2 0 1 0 -\nheld 9 3 5 1 0 1 1 -\nstop\n";
+    assert_eq!(records(&trace), expected);
+}
+
 /// Readings of the order of refusals 5 to 9.
 #[test]
 fn readings() {

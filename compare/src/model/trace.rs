@@ -3,7 +3,16 @@
 use std::fmt::Write;
 
 use crate::cursor::Cursor;
-use crate::{Fault, Machine, Opened, Table, PARAMETER, RECORD, STORE, SWEEP};
+use crate::{Decision, Fault, Machine, Opened, Table, PARAMETER, RECORD, STORE, SWEEP};
+
+/// Which program's text is printed.
+#[derive(Clone, Copy, Debug, PartialEq, Eq)]
+pub enum Output {
+    /// The replay program's: a line for each event.
+    Lines,
+    /// The records program's: more on each line, and what the event did under it (`listing`).
+    Records,
+}
 
 /// One record of a trace.
 enum Item<'a> {
@@ -23,19 +32,26 @@ enum Stop {
 
 /// A replay that is under way: the table, the lent areas and the registry as read so far.
 pub struct Replay<const B: bool> {
-    model: Machine<B>,
+    pub(crate) model: Machine<B>,
+    output: Output,
     registry: Vec<u8>,
     opened: bool,
     stopped: bool,
-    table: Table,
+    events: u64,
+    pub(crate) table: Table,
     store: Vec<u8>,
-    report: [u8; SWEEP],
+    pub(crate) report: [u8; SWEEP],
 }
 
 impl<const B: bool> Machine<B> {
     /// The whole output of the replay program for this input.
     pub fn replay(&self, trace: &[u8]) -> String {
-        let mut replay = Replay::new(*self);
+        self.printed(trace, Output::Lines)
+    }
+
+    /// The whole output of the program that prints this.
+    pub fn printed(&self, trace: &[u8], output: Output) -> String {
+        let mut replay = Replay::new(*self, output);
         let mut text = String::new();
         let used = replay.block(trace, &mut text);
         replay.end(trace.len() - used, &mut text);
@@ -72,12 +88,14 @@ fn segment<'a>(cursor: &mut Cursor<'a>) -> Option<Item<'a>> {
 }
 
 impl<const B: bool> Replay<B> {
-    pub fn new(model: Machine<B>) -> Self {
+    pub fn new(model: Machine<B>, output: Output) -> Self {
         Replay {
             model,
+            output,
             registry: Vec::new(),
             opened: false,
             stopped: false,
+            events: 0,
             table: Table::default(),
             store: vec![0; STORE],
             report: [0; SWEEP],
@@ -95,7 +113,7 @@ impl<const B: bool> Replay<B> {
                 Err(Stop::Cut) => break,
                 Err(_) => {
                     self.stopped = true;
-                    text.push_str("stop\n");
+                    self.last(true, text);
                 }
             }
         }
@@ -104,7 +122,17 @@ impl<const B: bool> Replay<B> {
 
     /// The input has ended, and so many octets are left of it.
     pub fn end(&self, left: usize, text: &mut String) {
-        if left > 0 && !self.stopped && !self.model.broken(Fault::CutSilent) {
+        if !self.stopped {
+            self.last(left > 0 && !self.model.broken(Fault::CutSilent), text);
+        }
+    }
+
+    /// What comes after the last event's lines.
+    fn last(&self, stop: bool, text: &mut String) {
+        if self.output == Output::Records {
+            self.held(text);
+        }
+        if stop {
             text.push_str("stop\n");
         }
     }
@@ -113,6 +141,7 @@ impl<const B: bool> Replay<B> {
     fn step(&mut self, octets: &[u8], item: Item, text: &mut String) -> Result<(), Stop> {
         let model = self.model;
         let report = &mut self.report;
+        let (mut decision, mut dropped) = (Decision::default(), String::new());
         let (name, table, refusal, records) = match item {
             Item::Register if self.opened && !model.broken(Fault::RegistryAfterOpen) => {
                 return Err(Stop::RegistryAfterOpen);
@@ -123,12 +152,16 @@ impl<const B: bool> Replay<B> {
             }
             Item::Open { timer, clock } => {
                 self.opened = true;
+                if self.output == Output::Records {
+                    self.dropped(&mut dropped);
+                }
                 let Opened { table, refusal } = model.opening(&self.registry, timer, clock);
                 ("open", table, refusal, 0)
             }
             Item::Segment { association, parameter } => {
                 let store = &mut self.store;
                 let got = model.segment(self.table, store, report, association, parameter);
+                decision = got.decision;
                 ("segment", got.table, got.refusal, got.records)
             }
             Item::Clock(time) => {
@@ -141,8 +174,17 @@ impl<const B: bool> Replay<B> {
             }
         };
         self.table = table;
+        self.events += 1;
         let [delivered, lost] = self.octets(usize::from(records));
-        writeln!(text, "{name} {refusal} {records} {delivered} {lost}").expect("a string takes it");
+        write!(text, "{name} {refusal} {records} {delivered} {lost}").expect("a string takes it");
+        if self.output == Output::Records {
+            self.told(self.events, refusal, &decision, text);
+        }
+        text.push('\n');
+        if self.output == Output::Records {
+            self.records(usize::from(records), text);
+            text.push_str(&dropped);
+        }
         Ok(())
     }
 

@@ -1,8 +1,9 @@
 #!/usr/bin/env python3
-"""Tests of tools/trace. Run as: python3 tools/test_trace.py"""
+"""Traces as text and as octets, and a parameter read alone: egrynnol encode, decode, and what explain says of the fields.
 
-import importlib.machinery
-import importlib.util
+    python3 tests/test_traces.py            all; the programs are in EGRYNNOL_LIBEXEC, or in target/bin
+"""
+
 import io
 import os
 import random
@@ -15,53 +16,45 @@ import tracemalloc
 import unittest
 
 sys.dont_write_bytecode = True
-HERE = os.path.dirname(os.path.abspath(__file__))
-TOOL = os.path.join(HERE, "trace")
-EXAMPLES = os.path.join(HERE, "..", "examples")
+
+from running import example, examples, process, run
+from egrynnol_lib import commands, streams, traces, words
 
 
-def load():
-    loader = importlib.machinery.SourceFileLoader("trace_tool", TOOL)
-    module = importlib.util.module_from_spec(importlib.util.spec_from_loader("trace_tool", loader))
-    loader.exec_module(module)
-    return module
+class Wrote:
+    """What a piece of the command wrote, said and answered."""
 
-
-tool = load()
-
-
-class Ran:
-    """What a command wrote, said and answered."""
-
-    def __init__(self, command, data, **more):
-        source = io.BufferedReader(io.BytesIO(data))
-        out, said = io.BytesIO(), []
-        keep, tool.report = tool.report, said.append
+    def __init__(self, work, data):
+        self.said, out = [], io.BytesIO()
+        keep = commands.report
+        commands.report = self.said.append
         try:
-            self.good = command(source, "T", out, **more)
+            self.good = work(io.BufferedReader(io.BytesIO(data)), out, self.said.append)
+        except traces.Bad as error:
+            self.good = False
+            self.said += [str(error)] if str(error) else []
         finally:
-            tool.report = keep
-        self.out, self.said = out.getvalue(), said
+            commands.report = keep
+        self.out = out.getvalue()
 
 
 def encode(text):
-    return Ran(tool.encode, text.encode() if isinstance(text, str) else text)
+    def work(stream, out, report):
+        for _, record in traces.records_of_text(stream, "T", report):
+            out.write(traces.octets_of_record(record))
+        return True
+    return Wrote(work, text.encode() if isinstance(text, str) else text)
 
 
 def decode(octets):
-    return Ran(tool.decode, octets)
+    return Wrote(lambda stream, out, _: commands.decoded(streams.Trace("T", stream, None), out) == commands.GOOD, octets)
 
 
 def explain_text(text):
-    ran = Ran(tool.explain, text.encode(), text=True)
-    assert ran.good, ran.said
+    """What explain says of a text that is good."""
+    ran = run("explain", "--text", data=text.encode())
+    assert ran.status in (0, 3), ran
     return ran.out.decode()
-
-
-def shell(*arguments, data=b""):
-    done = subprocess.run([sys.executable, TOOL] + list(arguments), input=data,
-                          stdout=subprocess.PIPE, stderr=subprocess.PIPE)
-    return done.returncode, done.stdout, done.stderr.decode()
 
 
 # ---- random traces ----
@@ -148,6 +141,31 @@ class RoundTrips(unittest.TestCase):
         loose = "\ufeff# a comment\r\n\r\n  context\t1998   003 # three\r\n\nsegment 9 aa Bb cC#x\n  \nclock 00000000000000000007"
         self.assertEqual(decode(encode(loose).out).out, b"context 1998 3\nsegment 9 AA BB CC\nclock 7\n")
 
+    def test_hex_forms(self):
+        """Without blanks, with colons, with 0x, and mixed: the same octets; decode writes one form."""
+        for form in ("83814185AA", "83:81:41:85:AA", "0x83814185AA", "0x83 0x81 0x41 0x85 0xAA", "8381 4185aa", "0X8381 41:85 aa", "83 81:41 0x85AA",
+                     "83 81 41 85 AA |", "83 81 41 85 AA | 0000", "8381:41"):
+            ran = encode("segment 9 %s\n" % form)
+            if form in ("83 81 41 85 AA |", "8381:41"):
+                self.assertFalse(ran.good, form)
+                continue
+            self.assertEqual((ran.good, ran.said), (True, []), form)
+            self.assertEqual(decode(ran.out).out, b"segment 9 83 81 41 85 AA\n", form)
+        self.assertEqual(decode(encode("segment 9 aabb | 00:01 0x0203").out).out, b"segment 9 AA BB | 00 01 02 03\n")
+        self.assertTrue(encode("segment 9 " + "AB" * 255).good)
+        self.assertEqual(encode("segment 9 0x" + "AB" * 256).said, ["T:1: a parameter has 0 to 255 octets, here are 256"])
+
+    def test_hex_forms_at_random(self):
+        dice = random.Random(5)
+        for _ in range(300):
+            octets, words_, at = some_octets(dice, 60), [], 0
+            while at < len(octets):
+                piece = octets[at:at + dice.randint(1, 7)]
+                words_.append(dice.choice([piece.hex(), piece.hex().upper(), piece.hex(":"), piece.hex(" "), "0x" + piece.hex(), "0X" + piece.hex().upper()]))
+                at += len(piece)
+            ran = encode("segment 7 %s\n" % " ".join(words_))
+            self.assertEqual((ran.good, ran.out[4:4 + len(octets)], ran.out[3]), (True, octets, len(octets)), words_)
+
     def test_the_octets_of_each_kind(self):
         for text, octets in [
                 ("context 1998 3", "01 00 03"), ("context 2000 65535", "02 FF FF"),
@@ -197,9 +215,16 @@ class BadText(unittest.TestCase):
         ("segment", "segment: the number for association is missing"),
         ("segment 65536 AA", "segment: association: '65536' is out of range, 0 to 65535"),
         ("segment AA 83", "segment: association: 'AA' is not a decimal number"),
-        ("segment 9 8", "'8' is not an octet: two hex digits each, with spaces between"),
-        ("segment 9 8381", "'8381' is not an octet"),
-        ("segment 9 0G", "'0G' is not an octet"),
+        ("segment 9 8", "'8' is not whole octets: two hex digits each"),
+        ("segment 9 83814", "'83814' is not whole octets"),
+        ("segment 9 0x838", "'0x838' is not whole octets"),
+        ("segment 9 0x", "'0x' is not an octet"),
+        ("segment 9 x83", "'x83' is not an octet"),
+        ("segment 9 83: 81", "'83:' is not an octet"),
+        ("segment 9 83::81", "'83::81' is not an octet"),
+        ("segment 9 8:3", "'8:3' is not an octet"),
+        ("segment 9 838:14", "'838:14' is not an octet"),
+        ("segment 9 0G", "'0G' is not an octet: two hex digits each, as 83 81, 8381, 83:81 or 0x8381"),
         ("segment 9 \u0661\u0661", "is not an octet"),
         ("segment 9 AA|01", "'AA|01' is not an octet"),
         ("segment 9 AA | 01 | 02", "'|' is not an octet"),
@@ -215,7 +240,7 @@ class BadText(unittest.TestCase):
         ("release", "release: the number for association is missing"),
         ("release 65536", "release: association: '65536' is out of range, 0 to 65535"),
         ("release 1 2", "release: '2' is one word too many"),
-        ("clock 1 # \0", "this is not text, it has an octet 00; for a trace in octets use decode"),
+        ("clock 1 # \0", "this is not text, it has an octet 00; for a trace in octets use decode, or --octets"),
         ("# " + "x" * 70000, "the line is longer than 65535 octets"),
     ]
 
@@ -253,11 +278,12 @@ class BadText(unittest.TestCase):
                      "release 65535", "segment 65535", "open 1 1\ncontext 1998 3"]:
             self.assertTrue(encode(line).good, line)
 
-    def test_explain_names_the_line_too(self):
-        ran = Ran(tool.explain, b"clock 1\nclock x\nclock 2\n", text=True)
-        self.assertEqual(ran.out, b"line 1: clock, time 1\n")
-        self.assertEqual(ran.said, ["T:2: clock: time: 'x' is not a decimal number"])
-        self.assertFalse(ran.good)
+    def test_the_others_name_the_lines_too(self):
+        """And nothing is run: a text is good as a whole, or not at all."""
+        for words_ in (["explain"], ["replay"], ["records"], ["records", "--json"]):
+            ran = run(*words_, data=b"clock 1\nclock x\nclock 2\nopen\n")
+            self.assertEqual((ran.status, ran.out), (1, b""))
+            self.assertEqual(ran.err, "standard input:2: clock: time: 'x' is not a decimal number\nstandard input:4: open: the number for T is missing\n")
 
 
 class BadOctets(unittest.TestCase):
@@ -275,13 +301,17 @@ class BadOctets(unittest.TestCase):
                 (b"\x21" + bytes(257), "kind 33 (segment) has 259 octets, here are 258"),
                 (b"\x22\0", "kind 34 (clock) has 5 octets, here are 2"),
                 (b"\x23\0", "kind 35 (release) has 3 octets, here are 2")]:
-            for command, text in [(tool.decode, b"context 1998 3\n"), (tool.explain, b"offset 0: context 1998 3\n")]:
-                ran = Ran(command, head + tail)
-                self.assertFalse(ran.good)
-                self.assertEqual(ran.out, text)
-                self.assertEqual(len(ran.said), 1)
-                self.assertTrue(ran.said[0].startswith("T: offset 3: "), ran.said)
-                self.assertIn(message, ran.said[0])
+            ran = decode(head + tail)
+            self.assertFalse(ran.good)
+            self.assertEqual(ran.out, b"context 1998 3\n")
+            self.assertEqual(len(ran.said), 1)
+            self.assertTrue(ran.said[0].startswith("T: offset 3: "), ran.said)
+            self.assertIn(message, ran.said[0])
+            told_ = run("explain", data=head + tail)
+            self.assertEqual((told_.status, told_.err), (3, ""))
+            first, second, third = told_.out.decode().splitlines()
+            self.assertEqual((first, second), ("offset 0: context 1998 3", "offset 3: stop, nothing is read from here on"))
+            self.assertTrue(third.startswith("    read alone, ") and message in third, third)
 
     def test_text_given_to_decode(self):
         self.assertIn("looks like text", decode(b"context 1998 3\n").said[0])
@@ -291,21 +321,26 @@ class BadOctets(unittest.TestCase):
 REGISTRY = "context 1998 3\ncontext 2000 4\nopen 100 0\n"
 
 
-def told(parameter, registry=REGISTRY):
-    """What explain says of one parameter, as a list of lines."""
-    lines = explain_text(registry + "segment 9 " + parameter + "\n").splitlines()
-    at = [i for i, line in enumerate(lines) if ": segment, association 9" in line][0]
-    return [line.strip() for line in lines[at + 1:]]
+def told(*parameters, registry=REGISTRY):
+    """What explain says of each parameter alone, as lists of lines; each meets a fresh opening."""
+    lines = explain_text(registry + "".join("segment 9 %s\nopen 100 0\n" % parameter for parameter in parameters)).splitlines()
+    found = []
+    for line in lines:
+        if ": segment, association 9" in line:
+            found.append([])
+        elif found and line.startswith("        "):
+            found[-1].append(line.strip())
+    return found if len(parameters) > 1 else found[0]
 
 
 class Explained(unittest.TestCase):
 
-    CONTEXT3 = "context 3: registered as a context of 1998, no address fields"
-    CONTEXT4 = "context 4: registered as a context of 2000, with address fields"
+    CONTEXT3 = "context 3: listed as of 1998, no address fields"
+    CONTEXT4 = "context 4: listed as of 2000, with address fields"
     NONE = "instruction 0: send notification no, release call no"
 
     def test_examples_of_the_paper(self):
-        self.assertEqual(told(""), ["refused 5 at position 1: the parameter ends where octet 1 should be"])
+        self.assertEqual(told(""), ["not read on: it ends where octet 1 should be"])
         self.assertEqual(told("83 80 C0 AA BB"), [
             self.CONTEXT3, self.NONE, "new segment, 0 segments remaining",
             "unsegmented: no reference", "information: 2 octets"])
@@ -327,7 +362,7 @@ class Explained(unittest.TestCase):
         self.assertEqual(told("84 80 C0 00 01 07")[4:], [
             "originating address: 0 octets", "destination address: 1 octet: 07", "information: 0 octets"])
         self.assertEqual(told("03 80 80 C0 AA"), [
-            "context 3, written in two octets: registered as a context of 1998, no address fields",
+            "context 3, written in two octets: listed as of 1998, no address fields",
             self.NONE, "new segment, 0 segments remaining", "unsegmented: no reference", "information: 1 octet"])
 
     def test_instruction(self):
@@ -338,92 +373,110 @@ class Explained(unittest.TestCase):
 
     REFUSED = [
         # M1, M7 to M10
-        ("", 5, 1), ("83 80 40 85", 7, 3), ("83 80 C1", 7, 3), ("83 00", 6, 2), ("85", 8, 1),
+        ("", 5), ("83 80 40 85", 7), ("83 80 C1", 7), ("83 00", 6), ("85", 8),
         # the literal cases
-        ("83 80 40", 5, 4), ("83 80 40 05", 6, 4), ("84 80 40 85 15", 7, 3), ("84 80 C1", 7, 3), ("83 80 80", 7, 3),
-        ("05", 5, 2), ("05 05", 6, 2), ("05 80", 8, 2), ("80 80 C0", 8, 1), ("00 80 80 C0", 8, 2),
+        ("83 80 40", 5), ("83 80 40 05", 6), ("84 80 40 85 15", 7), ("84 80 C1", 7), ("83 80 80", 7),
+        ("05", 5), ("05 05", 6), ("05 80", 8), ("80 80 C0", 8), ("00 80 80 C0", 8),
         # where the fields end, and long addresses
-        ("83", 5, 2), ("83 7F", 6, 2), ("83 80", 5, 3), ("84 80 C0", 5, 4), ("84 80 C0 15", 9, 4), ("84 80 C0 FF 01", 9, 4),
-        ("84 80 C0 02 01", 5, 6), ("84 80 C0 14", 5, 5), ("84 80 C0 00", 5, 5), ("84 80 C0 00 15", 9, 5),
-        ("84 80 C0 01 07 02 01", 5, 8), ("84 80 41 85 02 00 07 15", 9, 8), ("84 80 41 05 15", 6, 4),
+        ("83", 5), ("83 7F", 6), ("83 80", 5), ("84 80 C0", 5), ("84 80 C0 15", 9), ("84 80 C0 FF 01", 9),
+        ("84 80 C0 02 01", 5), ("84 80 C0 14", 5), ("84 80 C0 00", 5), ("84 80 C0 00 15", 9),
+        ("84 80 C0 01 07 02 01", 5), ("84 80 41 85 02 00 07 15", 9), ("84 80 41 05 15", 6),
     ]
 
-    def test_refusals(self):
-        for parameter, refusal, position in self.REFUSED:
-            last = told(parameter)[-1]
-            self.assertTrue(last.startswith("refused %d at position %d: " % (refusal, position)), (parameter, last))
+    def test_refusals_are_the_programs(self):
+        """Its number in words; and before any opening it is 1, whatever the parameter is."""
+        lines = explain_text(REGISTRY + "".join("segment 9 %s\n" % parameter for parameter, _ in self.REFUSED)).splitlines()
+        refused = [line.strip() for line in lines if line.strip().startswith("refused")]
+        self.assertEqual(refused, ["refused %d: %s" % (number, words.REFUSALS[number]) for _, number in self.REFUSED])
+        lines = explain_text("".join("segment 9 %s\n" % parameter for parameter, _ in self.REFUSED)).splitlines()
+        refused = [line.strip() for line in lines if "refused" in line]
+        self.assertEqual(refused, ["refused 1: %s" % words.REFUSALS[1]] * len(self.REFUSED))
 
     def test_reasons(self):
-        for parameter, reason in [
-                ("83", "the parameter ends where octet 2 should be"),
-                ("83 80", "the parameter ends where octet 3 should be"),
-                ("83 80 41", "the parameter ends where octet 3a should be"),
-                ("05", "the parameter ends where octet 1a should be"),
-                ("05 05", "octet 1a has extension 0, it must be 1"),
-                ("83 00", "octet 2 has extension 0, it must be 1"),
-                ("83 80 41 05", "octet 3a has extension 0, it must be 1"),
-                ("83 80 40 85", "octet 3 says new, 0 remaining, so octet 3a must be absent; it is present"),
-                ("83 80 80", "octet 3 does not say new, 0 remaining, so octet 3a must be present; it is absent"),
-                ("85", "with octet 1 the context is known, and it is not registered"),
-                ("05 80", "with octet 1a the context is known, and it is not registered"),
-                ("84 80 C0 15", "the length octet of the originating address says 21, over 20"),
-                ("84 80 C0 00 FF", "the length octet of the destination address says 255, over 20"),
-                ("84 80 C0", "the parameter ends where the length octet of the originating address should be"),
-                ("84 80 C0 00 03 01", "the parameter ends inside the destination address, with 1 of its 3 octets")]:
-            self.assertEqual(told(parameter)[-1].split(": ", 1)[1], reason)
+        cases = [
+            ("83", "it ends where octet 2 should be"),
+            ("83 80", "it ends where octet 3 should be"),
+            ("83 80 41", "it ends where octet 3a should be"),
+            ("05", "it ends where octet 1a should be"),
+            ("05 05", "octet 1a, octet 2 of it, has extension 0 where it has to be 1"),
+            ("83 00", "octet 2, octet 2 of it, has extension 0 where it has to be 1"),
+            ("83 80 41 05", "octet 3a, octet 4 of it, has extension 0 where it has to be 1"),
+            ("83 80 40 85", "octet 3 says new, 0 remaining, so octet 3a has to be absent, and it is present"),
+            ("83 80 80", "octet 3 does not say new, 0 remaining, so octet 3a has to be present, and it is absent"),
+            ("84 80 C0 15", "the length octet of the originating address says 21, over 20"),
+            ("84 80 C0 00 FF", "the length octet of the destination address says 255, over 20"),
+            ("84 80 C0", "it ends where the length octet of the originating address should be"),
+            ("84 80 C0 00 03 01", "it ends inside the destination address, with 1 of its 3 octets")]
+        for lines, (_, reason) in zip(told(*(parameter for parameter, _ in cases)), cases):
+            self.assertEqual(lines[-1], "not read on: " + reason)
 
-    def test_registered_so_far(self):
-        self.assertEqual(told("83 80 C0", "open 100 0\n")[0], "context 3: not registered so far in this trace")
-        self.assertEqual(told("7F FF", "context 1998 16383\n")[0],
-                         "context 16383: registered as a context of 1998, no address fields")
-        zero = told("80 80 C0", "context 1998 0\n")
-        self.assertEqual(zero[0], "context 0: never registered")
-        self.assertTrue(zero[1].startswith("refused 8 at position 1: "))
-        both = told("83 80 C0 02 01 02", "context 1998 3\ncontext 2000 3\n")
-        self.assertEqual(both[0], "context 3: listed as 1998 and as 2000, so an open is refused with 11")
-        self.assertEqual(both[-1], "3 octets left: address fields or not, the registry says both")
+    def test_listed_so_far(self):
+        self.assertEqual(told("83 80 C0", registry="open 100 0\n")[0], "context 3: not listed so far in this trace")
+        self.assertEqual(told("83 80 C0 01 02", registry="open 100 0\n")[-1],
+                         "2 octets left: whether addresses are among them, the registry does not say")
+        self.assertEqual(told("7F FF", registry="context 1998 16383\n")[0], "context 16383: listed as of 1998, no address fields")
+        self.assertEqual(told("80 80 C0", registry="context 1998 0\n")[0], "context 0: never registered")
+        both = told("83 80 C0 02 01 02", registry="context 1998 3\ncontext 2000 3\n")
+        self.assertEqual(both[0], "context 3: listed as of 1998 and as of 2000")
+        self.assertEqual(both[-1], "3 octets left: whether addresses are among them, the registry does not say")
         before = explain_text("segment 9 83 80 C0\ncontext 1998 3\nsegment 9 83 80 C0\n")
-        self.assertEqual(before.count("not registered so far"), 1)
+        self.assertEqual(before.count("not listed so far"), 1)
 
     def test_other_records(self):
         self.assertEqual(explain_text(
             "context 1998 3\ncontext 2000 3\ncontext 1998 0\ncontext 1998 16384\nopen 0 7\n"
-            "open 1000000 7\nopen 1000001 7\nclock 8\nrelease 65535\ncontext 1998 9\n").splitlines(), [
-                "line 1: context 1998 3",
-                "line 2: context 2000 3; listed before, so an open is refused with 11",
-                "line 3: context 1998 0; out of range 1 to 16383, so an open is refused with 11",
-                "line 4: context 1998 16384; out of range 1 to 16383, so an open is refused with 11",
-                "line 5: open, T 0, clock 7; T is out of range 1 to 1000000, refused with 12",
-                "line 6: open, T 1000000, clock 7",
-                "line 7: open, T 1000001, clock 7; T is out of range 1 to 1000000, refused with 12",
-                "line 8: clock, time 8", "line 9: release, association 65535",
-                "line 10: context 1998 9; after the first open: the replay program stops here"])
-        many = explain_text("".join("context 1998 %d\n" % n for n in range(1, 10))).splitlines()
-        self.assertEqual([n for n, line in enumerate(many, 1) if "over 8" in line], [9])
+            "open 1000000 7\nclock 8\nrelease 65535\ncontext 1998 9\n").splitlines(), [
+                "line 1: context 1998 3", "line 2: context 2000 3", "line 3: context 1998 0", "line 4: context 1998 16384",
+                "line 5, event 1: open, T 0, clock 7", "    refused 12: T is not 1 to 1,000,000",
+                "line 6, event 2: open, T 1000000, clock 7", "    refused 11: " + words.REFUSALS[11],
+                "    read alone, of the registry: context 0 is not 1 to 16,383",
+                "    read alone, of the registry: context 3 is listed 2 times",
+                "    read alone, of the registry: context 16384 is not 1 to 16,383",
+                "line 7, event 3: clock, time 8", "    refused 1: " + words.REFUSALS[1],
+                "line 8, event 4: release, association 65535", "    refused 1: " + words.REFUSALS[1],
+                "line 9: stop, nothing is read from here on", "    read alone, a registered context after the first open"])
+        many = explain_text("".join("context 1998 %d\n" % n for n in range(1, 10)) + "open 1 1\n").splitlines()
+        self.assertEqual(many[-1], "    read alone, of the registry: 9 contexts are listed, over 8")
+
+    def test_every_decision(self):
+        """Saved, delivered both ways, every cause, refusal 10, what an opening drops, what is held."""
+        text = explain_text(
+            REGISTRY + "segment 9 83 81 41 85 AA\nsegment 9 83 80 00 85 BB\nsegment 9 83 80 C0 CC\nsegment 9 83 80 00 85\n"
+            "segment 9 83 80 42 85 01\nsegment 9 83 80 00 85 02\nsegment 9 83 80 42 85 01\nsegment 9 83 80 42 85 02\nsegment 9 83 80 4A 85 03\n"
+            "segment 9 84 80 42 86 02 00 07 00 01 02 03\nclock 100\nsegment 9 83 80 42 85 01\nrelease 9\nsegment 9 83 80 42 85 01\nopen 100 0\n"
+            "segment 9 83 80 42 86 01\nopen 0 0\nopen 5 5\nsegment 8 83 80 42 87 01 02\n")
+        whose = "association 9, context 3, reference %d, instruction %d, no originating address"
+        for line in ("saved in place 0", "delivered: 2 octets in 2 segments; " + whose % (5, 1),
+                     "delivered: 1 octet in 1 segment; association 9, context 3, unsegmented, instruction 0, no originating address",
+                     "lost, cause 1 (%s): 0 octets in 1 segment; %s" % (words.CAUSES[1], whose % (5, 0)),
+                     "lost, cause 2 (%s): 2 octets in 2 segments; %s" % (words.CAUSES[2], whose % (5, 0)),
+                     "lost, cause 3 (%s): 1 octet in 1 segment; %s" % (words.CAUSES[3], whose % (5, 0)),
+                     "lost, cause 4 (%s): 2 octets in 2 segments; %s" % (words.CAUSES[4], whose % (5, 0)),
+                     "lost, cause 6 (%s): 3 octets in 1 segment; association 9, context 4, reference 6, instruction 0, originating address 00 07" % words.CAUSES[6],
+                     "lost, cause 7 (%s): 1 octet in 1 segment; %s" % (words.CAUSES[7], whose % (5, 0)),
+                     "dropped by this opening, with no record: 1 octet in 1 segment; " + whose % (5, 0),
+                     "dropped by this opening, with no record: 1 octet in 1 segment; " + whose % (6, 0)):
+            self.assertIn("\n    %s\n" % line, text)
+        self.assertTrue(text.endswith(
+            "at the end:\n    held, still open and in no record: 2 octets in 1 segment; association 8, context 3, reference 7, instruction 0, no originating address\n"), text)
+        full = run("explain", example("full-table")).out.decode()
+        self.assertIn("    refused 10: %s\n" % words.REFUSALS[10], full)
+        self.assertIn("lost, cause 5 (%s): 2049 octets in 10 segments" % words.CAUSES[5], run("explain", example("longest")).out.decode())
 
     def test_octets_and_text_are_told_alike(self):
         text = REGISTRY + "segment 9 84 80 41 85 02 00 07 00 AA\nsegment 9\n"
         octets = encode(text).out
         names = re.compile(r"^(offset|line) \d+", re.M)
-        self.assertEqual(names.sub("", Ran(tool.explain, octets).out.decode()), names.sub("", explain_text(text)))
-        self.assertIn("offset 15: segment", Ran(tool.explain, octets).out.decode())
+        of_octets = run("explain", data=octets).out.decode()
+        self.assertEqual(names.sub("", of_octets), names.sub("", explain_text(text)))
+        self.assertIn("offset 15, event 2: segment", of_octets)
 
 
 class NoInformation(unittest.TestCase):
     """What the information is must not be seen: other octets in its place give the same words."""
 
-    def header_end(self, octets, registry):
-        """How many octets explain may look at: the fields, or up to the refusal."""
-        lines = tool.explain_parameter(octets, registry)
-        if lines[-1].startswith("information: "):
-            return len(octets) - int(lines[-1].split()[1])
-        if " octets left" in lines[-1] or " octet left" in lines[-1]:
-            return len(octets) - int(lines[-1].split()[0])
-        position = int(re.search(r"position (\d+)", lines[-1]).group(1))
-        return position if "refused 7" not in lines[-1] else position + 1  # 3a is read before 7
-
     def registry(self):
-        registry = tool.Registry()
+        registry = words.Registry()
         for context, kind in [(3, 1), (4, 2), (5, 1), (5, 2)]:
             registry.add(context, kind)
         return registry
@@ -436,13 +489,14 @@ class NoInformation(unittest.TestCase):
             head = [dice.choice([0x83, 0x84, 0x85, 0x03, 0x86]), dice.choice([0x80, 0x81, 0x83, 0x03]),
                     dice.choice([0xC0, 0x41, 0x01, 0xC1, 0x40]), dice.choice([0x85, 0x02, 0]), dice.choice([0, 1, 2, 20, 21])]
             octets = bytes(head[:dice.randint(0, 5)]) + some_octets(dice, 60)
-            end = self.header_end(octets, registry)
-            lines = tool.explain_parameter(octets, registry)
-            other = octets[:end] + bytes(255 - o for o in octets[end:])
-            self.assertEqual(lines, tool.explain_parameter(other, registry), octets.hex())
-            seen.add(lines[-1].split(" at ")[0].split(":")[0])
-        for refusal in (5, 6, 7, 8, 9):
-            self.assertIn("refused %d" % refusal, seen)
+            reading = words.read_alone(octets, registry)
+            other = octets[:reading.at] + bytes(255 - o for o in octets[reading.at:])
+            self.assertEqual(reading.lines, words.read_alone(other, registry).lines, octets.hex())
+            seen.add(re.sub(r"\d+", "N", reading.lines[-1]))
+        for last in ("information: N octets", "not read on: it ends inside the originating address, with N of its N octets",
+                     "N octets left: whether addresses are among them, the registry does not say"):
+            self.assertIn(last, seen)
+        self.assertGreater(len(seen), 15)
 
     def test_a_cut_address_is_not_shown(self):
         self.assertNotIn("5A", " ".join(told("84 80 C0 14 5A 5A 5A")))
@@ -450,8 +504,8 @@ class NoInformation(unittest.TestCase):
     def test_octets_past_the_length_are_not_shown(self):
         text = explain_text(REGISTRY + "segment 9 83 80 C0 | 5A 5A\n")
         self.assertNotIn("5A", text)
-        self.assertIn("octets past the length are not all zero; they do not count", text)
-        self.assertNotIn("past the length", explain_text("segment 9 83 80 C0 | 00 00\n"))
+        self.assertIn("octets past its length are not all zero; they do not count", text)
+        self.assertNotIn("past its length", explain_text("segment 9 83 80 C0 | 00 00\n"))
 
 
 class CommandLine(unittest.TestCase):
@@ -462,21 +516,20 @@ class CommandLine(unittest.TestCase):
             source, octets, back = (os.path.join(place, n) for n in ("t", "o", "b"))
             with open(source, "wb") as stream:
                 stream.write(text)
-            self.assertEqual(shell("encode", source, "-o", octets), (0, b"", ""))
-            self.assertEqual(shell("decode", octets), (0, text, ""))
-            self.assertEqual(shell("decode", "-o", back, octets), (0, b"", ""))
+            self.assertEqual(process("encode", source, "-o", octets), (0, b"", ""))
+            self.assertEqual(process("decode", octets), (0, text, ""))
+            self.assertEqual(process("decode", "-o", back, octets), (0, b"", ""))
             with open(back, "rb") as stream:
                 self.assertEqual(stream.read(), text)
             self.assertEqual(sorted(os.listdir(place)), ["b", "o", "t"])
             self.assertEqual(stat.S_IMODE(os.stat(octets).st_mode), stat.S_IMODE(os.stat(source).st_mode))
-            self.assertEqual(shell("--explain", octets)[1], shell("explain", "-", data=encode(text).out)[1])
 
     def test_a_bad_text_keeps_the_old_file(self):
         with tempfile.TemporaryDirectory() as place:
             old = os.path.join(place, "old")
             with open(old, "wb") as stream:
                 stream.write(b"precious")
-            status, out, said = shell("encode", "-o", old, data=b"clock 1\nclock\n")
+            status, out, said = run("encode", "-o", old, data=b"clock 1\nclock\n")
             self.assertEqual((status, out), (1, b""))
             self.assertIn("standard input:2: clock: the number for time is missing", said)
             with open(old, "rb") as stream:
@@ -484,48 +537,27 @@ class CommandLine(unittest.TestCase):
             self.assertEqual(os.listdir(place), ["old"])
 
     def test_decode_writes_what_came_before(self):
-        status, out, said = shell("decode", data=bytes([34, 0, 0, 0, 7, 35, 1]))
+        status, out, said = run("decode", data=bytes([34, 0, 0, 0, 7, 35, 1]))
         self.assertEqual((status, out), (1, b"clock 7\n"))
         self.assertEqual(said, "standard input: offset 5: the record is cut: kind 35 (release) has 3 octets, here are 2\n")
 
     def test_empty_input(self):
-        for command in ("encode", "decode", "explain"):
-            self.assertEqual(shell(command), (0, b"", ""))
-
-    def test_wrong_use(self):
-        for arguments in ([], ["foo"], ["encode", "--text"], ["decode", "a", "b"]):
-            status, out, said = shell(*arguments)
-            self.assertEqual((status, out), (2, b""))
-            self.assertIn("usage:", said)
-        status, _, said = shell("decode", os.path.join(HERE, "no-such-file"))
-        self.assertEqual(status, 2)
-        self.assertIn("no-such-file: No such file", said)
-
-    def test_streams_that_cannot_be_used(self):
-        trace = os.path.join(EXAMPLES, "origins.trace")
-        for line, reason in (("encode %s >&-", "standard output: Bad file descriptor"), ("explain <&-", "standard input: Bad file descriptor"),
-                             ("encode %s > /dev/full", "No space left on device"), ("explain --text %s > /dev/full", "No space left on device")):
-            with self.subTest(line):
-                command = "'%s' '%s' %s" % (sys.executable, TOOL, line.replace("%s", "'%s'" % trace))
-                done = subprocess.run(["sh", "-c", command], stdout=subprocess.PIPE, stderr=subprocess.PIPE)
-                self.assertEqual((done.returncode, done.stdout), (2, b""))
-                self.assertTrue(done.stderr.decode().endswith(reason + "\n"), done.stderr)
-                self.assertEqual(done.stderr.count(b"\n"), 1)
+        for command in ("encode", "decode", "explain", "replay", "records"):
+            self.assertEqual(run(command), (0, b"", ""))
 
     def test_the_example_of_the_help_works_when_pasted(self):
-        status, out, _ = shell("--help")
+        status, out, _ = process("--help")
         self.assertEqual(status, 0)
-        line = out.decode().rstrip("\n").split("\n")[-1].strip()
-        self.assertTrue(line.startswith("printf "), line)
-        done = subprocess.run(["sh", "-c", line], stdout=subprocess.PIPE, stderr=subprocess.PIPE)
+        line = [line for line in out.decode().split("\n") if line.startswith("  printf ")]
+        self.assertEqual(len(line), 1)
+        done = subprocess.run(["sh", "-c", line[0]], stdout=subprocess.PIPE, stderr=subprocess.PIPE)
         self.assertEqual((done.returncode, done.stderr), (0, b""))
         self.assertIn(b"information: 2 octets", done.stdout)
 
     def test_the_examples_of_the_repository(self):
-        names = sorted(n for n in os.listdir(EXAMPLES) if n.endswith(".trace"))
-        self.assertGreaterEqual(len(names), 5)
-        for name in names:
-            with open(os.path.join(EXAMPLES, name), "rb") as stream:
+        self.assertGreaterEqual(len(examples()), 5)
+        for name in examples():
+            with open(example(name), "rb") as stream:
                 ran = encode(stream.read())
             self.assertTrue(ran.good, (name, ran.said))
             self.assertEqual(encode(decode(ran.out).out).out, ran.out)
@@ -552,7 +584,7 @@ class CommandLine(unittest.TestCase):
                 pass
 
         tracemalloc.start()
-        self.assertTrue(tool.decode(io.BufferedReader(Endless(), 259), "T", Sink()))
+        self.assertEqual(commands.decoded(streams.Trace("T", io.BufferedReader(Endless(), 259), None), Sink()), commands.GOOD)
         peak = tracemalloc.get_traced_memory()[1]
         tracemalloc.stop()
         self.assertLess(peak, 1000000)

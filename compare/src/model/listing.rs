@@ -1,0 +1,72 @@
+//! What the records program prints beside the replay program's lines.
+
+use std::fmt::Write;
+
+use crate::record::{Covered, Record};
+use crate::{Decision, Fault, Replay, ADDRESS, RECORD, UNSEGMENTED};
+
+impl<const B: bool> Replay<B> {
+    /// The rest of an event's line: its number, and what was decided.
+    pub(crate) fn told(&self, event: u64, refusal: u8, decision: &Decision, text: &mut String) {
+        let written = match (refusal, decision.kind) {
+            (0, 1) => write!(text, " {event} saved {}", decision.place),
+            (0, 2 | 3) => write!(text, " {event} delivered"),
+            (0, 4) => write!(text, " {event} lost"),
+            (0, _) => write!(text, " {event} -"),
+            _ => write!(text, " {event} refused {refusal}"),
+        };
+        written.expect("a string takes it");
+    }
+
+    /// The records that this call made.
+    pub(crate) fn records(&self, count: usize, text: &mut String) {
+        for record in self.report.chunks_exact(RECORD).take(count) {
+            self.line(if record[0] == 16 { "delivered" } else { "lost" }, record, text);
+        }
+    }
+
+    /// What an opening is about to drop.
+    pub(crate) fn dropped(&self, text: &mut String) {
+        if !self.model.broken(Fault::DroppedUntold) {
+            self.open("dropped", text);
+        }
+    }
+
+    /// What is open when nothing more comes.
+    pub(crate) fn held(&self, text: &mut String) {
+        if !self.model.broken(Fault::HeldUntold) {
+            self.open("held", text);
+        }
+    }
+
+    /// A line for each open sequence, as if it had a record.
+    fn open(&self, name: &str, text: &mut String) {
+        for place in self.table.places.iter().filter(|place| place.is_open()) {
+            let record = Record { cause: 0, covered: Covered::saved(place) };
+            self.line(name, &self.model.octets(&record), text);
+        }
+    }
+
+    /// The name and a record's fields.
+    fn line(&self, name: &str, record: &[u8], text: &mut String) {
+        let two = |at: usize| u16::from_be_bytes([record[at], record[at + 1]]);
+        let [association, context, octets] = [1, 3, 9].map(two);
+        let [instruction, cause, segments] = [record[6], record[7], record[8]];
+        let reference = match record[5] {
+            UNSEGMENTED if !self.model.broken(Fault::ReferenceAlways) => "-".to_string(),
+            reference => reference.to_string(),
+        };
+        let origin = self.origin(record[11], &record[12..]);
+        writeln!(text, "{name} {association} {context} {reference} {instruction} {cause} {segments} {octets} {origin}")
+            .expect("a string takes it");
+    }
+
+    fn origin(&self, length: u8, address: &[u8]) -> String {
+        let length = match length {
+            0 => return "-".to_string(),
+            _ if self.model.broken(Fault::OriginNoLength) => ADDRESS,
+            length => length.into(),
+        };
+        address[..length].iter().map(|octet| format!("{octet:02X}")).collect()
+    }
+}

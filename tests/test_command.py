@@ -1,0 +1,636 @@
+#!/usr/bin/env python3
+"""The command egrynnol as a Unix tool: its exit statuses, closed pipes, signals, full disks, odd files, programs that fail, and no traceback ever.
+
+    python3 tests/test_command.py            the programs are in EGRYNNOL_LIBEXEC, or in target/bin
+    python3 tests/test_command.py Sweep      one class of tests; SEED and RUNS set the sweep
+"""
+
+import csv
+import io
+import json
+import os
+import pty
+import random
+import re
+import resource
+import shutil
+import signal
+import stat
+import subprocess
+import sys
+import tempfile
+import threading
+import time
+import unittest
+
+sys.dont_write_bytecode = True
+
+from running import ROOT, SUBCOMMANDS, TOOL, TOOLS, Ran, example, examples, process, run
+from egrynnol_lib import VERSION, commands, programs, rows, streams
+
+SEED = int(os.environ.get("SEED", "765"))
+RUNS = int(os.environ.get("RUNS", "600"))
+FAULTS = re.compile("Traceback|Exception|fault of its own|Fatal Python")
+REPLAYING = (["replay"], ["records"], ["records", "--csv"], ["records", "--json"], ["explain"])
+TRACE = run("encode", example("origins")).out
+LONG = run("encode", data=b"context 1998 3\nopen 100 0\n" + b"segment 9 83 81 41 85 AA\nsegment 9 83 80 00 85 BB\n" * 8000).out
+
+
+class Folder(unittest.TestCase):
+    def setUp(self):
+        place = tempfile.TemporaryDirectory()
+        self.addCleanup(place.cleanup)
+        self.place = place.name
+
+    def path(self, name, octets=None):
+        path = os.path.join(self.place, name)
+        if octets is not None:
+            with open(path, "wb") as file:
+                file.write(octets)
+        return path
+
+    def start(self, *words, **streams_):
+        """The command, still at work when this answers."""
+        for name in ("stdin", "stdout", "stderr"):
+            streams_.setdefault(name, subprocess.PIPE)
+        it = subprocess.Popen([TOOL, *words], bufsize=0, **streams_)
+        self.addCleanup(it.wait)
+        self.addCleanup(it.kill)
+        for stream in (it.stdin, it.stdout, it.stderr):
+            if stream:
+                self.addCleanup(stream.close)
+        return it
+
+
+class Statuses(Folder):
+
+    def test_good(self):
+        for words in REPLAYING:
+            self.assertEqual(run(*words, example("origins"))[::2], (0, ""), words)
+        self.assertEqual(run("encode", example("origins"))[::2], (0, ""))
+        self.assertEqual(run("decode", data=TRACE)[::2], (0, ""))
+
+    def test_bad_input(self):
+        for words in REPLAYING + (["encode"],):
+            ran = run(*words, data=b"open 1\n")
+            self.assertEqual(ran, (1, rows.csv_head().encode() if words[-1] == "--csv" else b"", "standard input:1: open: the number for clock is missing\n"))
+        self.assertEqual(run("decode", data=b"\7").status, 1)
+        self.assertEqual(run("replay", data=b"\xff\xfeo\0p\0")[::2], (1, "standard input: this is text in UTF-16: save it as UTF-8\n"))
+
+    def test_not_read(self):
+        for words in REPLAYING + (["encode"], ["decode"], ["from-pcap"]):
+            ran = run(*words, self.path("none"))
+            self.assertEqual(ran.status, 2)
+            self.assertEqual(ran.err, "%s: No such file or directory\n" % self.path("none"))
+            ran = run(*words, self.place)
+            self.assertEqual(ran[::2], (2, "%s: Is a directory\n" % self.place))
+
+    def test_stop(self):
+        for words in REPLAYING:
+            ran = run(*words, example("bad-input"))
+            self.assertEqual(ran[::2], (3, ""), words)
+            self.assertEqual(run(*words, data=b"\x22\0")[::2], (3, ""), words)
+        self.assertEqual(run("replay", data=b"\x22\0").out, b"stop\n")
+
+    def test_wrong_use(self):
+        for words in ([], ["foo"], ["--foo"], ["-"], ["encode", "--text"], ["decode", "a", "b"], ["replay", "--csv"], ["records", "--csv", "--json"],
+                      ["explain", "--text", "--octets"], ["from-pcap"], ["from-pcap", "--tick", "0", "x"], ["from-pcap", "--tick", "nan", "x"],
+                      ["from-pcap", "--timer", "1000001", "x"], ["replay", "-o"], ["replay", "--te"]):
+            ran = run(*words)
+            self.assertEqual((ran.status, ran.out), (64, b""), words)
+            self.assertRegex(ran.err, r"\Aegrynnol[^\n]*: [^\n]+\nTry 'egrynnol[^\n]* --help'\.\n\Z")
+
+    def test_a_terminal_gets_no_octets(self):
+        ours, theirs = pty.openpty()
+        with open(ours, "rb", buffering=0), open(theirs, "wb", buffering=0) as terminal:
+            it = self.start("encode", example("origins"), stdout=terminal)
+            self.assertEqual(it.communicate()[1], b"egrynnol encode: octets are not for a terminal: use -o FILE or a pipe\n")
+            self.assertEqual(it.returncode, 64)
+
+    def test_of_several_files_the_worst_counts(self):
+        good, stops, bad, none = example("origins"), example("bad-input"), self.path("bad", b"open 1\n"), self.path("none")
+        for files, status in (((good, stops), 3), ((stops, bad, good), 1), ((none, bad), 2), ((bad, none, stops), 2), ((good, good), 0)):
+            for words in REPLAYING:
+                ran = run(*words, *files)
+                self.assertEqual(ran.status, status, (words, files))
+                if words == ["replay"]:
+                    self.assertEqual(ran.out.count(b"# "), sum(1 for file in files if file in (good, stops)))
+
+    def test_several_files_are_told_apart(self):
+        one, two = example("origins"), example("timer")
+        out = b"".join(b"# %s\n" % os.fsencode(path) + run("replay", path).out for path in (one, two))
+        self.assertEqual(run("replay", one, two).out, out)
+        table = list(csv.DictReader(io.StringIO(run("records", "--csv", one, two).out.decode())))
+        self.assertEqual({row["file"] for row in table}, {one, two})
+
+    def test_a_dash_is_standard_input(self):
+        for words in (["replay", "-"], ["replay"], ["replay", "--", "-"]):
+            self.assertEqual(run(*words, data=TRACE).out, run("replay", example("origins")).out)
+
+    def test_a_name_like_an_option(self):
+        self.path("-x", TRACE)
+        ran = process("replay", "--", "-x", cwd=self.place)
+        self.assertEqual(ran[::2], (0, ""))
+
+
+class Streams(Folder):
+
+    def shell(self, line, **names):
+        names = {"TOOL": TOOL, "GOOD": example("origins"), "PLACE": self.place, **names}
+        done = subprocess.run(["bash", "-c", line], stdin=subprocess.DEVNULL, stdout=subprocess.PIPE, stderr=subprocess.PIPE, env=dict(os.environ, **names), timeout=60)
+        return Ran(done.returncode, done.stdout, done.stderr.decode())
+
+    def test_closed_and_odd_streams(self):
+        full, closed, folder = "No space left on device", "Bad file descriptor", "Is a directory"
+        for line, err in (('"$TOOL" replay <&-', "standard input: " + closed), ('"$TOOL" replay < /', "standard input: " + folder),
+                          ('"$TOOL" encode < /', "standard input: " + folder), ('"$TOOL" explain - < /', "standard input: " + folder),
+                          ('"$TOOL" replay "$GOOD" >&-', "standard output: " + closed), ('"$TOOL" --help >&-', "standard output: " + closed),
+                          ('"$TOOL" replay "$GOOD" 1</', "egrynnol: standard output: " + folder),
+                          ('"$TOOL" replay "$GOOD" > /dev/full', "standard output: " + full), ('"$TOOL" records "$GOOD" > /dev/full', "standard output: " + full),
+                          ('"$TOOL" records --csv "$GOOD" > /dev/full', "standard output: " + full), ('"$TOOL" records --json "$GOOD" > /dev/full', "standard output: " + full),
+                          ('"$TOOL" explain "$GOOD" > /dev/full', "standard output: " + full), ('"$TOOL" encode "$GOOD" > /dev/full', "standard output: " + full),
+                          ('"$TOOL" encode "$GOOD" | "$TOOL" decode > /dev/full', "standard output: " + full),
+                          ('"$TOOL" --help > /dev/full', "standard output: " + full), ('"$TOOL" replay --help > /dev/full', "standard output: " + full),
+                          ('"$TOOL" --version > /dev/full', "standard output: " + full),
+                          ('"$TOOL" replay "$GOOD" -o /dev/full', "/dev/full: %s\n" % full), ('"$TOOL" encode "$GOOD" -o "$PLACE"', self.place + ": " + folder),
+                          ('"$TOOL" encode "$GOOD" -o "$PLACE/a/b"', self.place + "/a/b: No such file or directory")):
+            with self.subTest(line):
+                ran = self.shell(line)
+                self.assertEqual((ran.status, ran.out, ran.err.rstrip("\n")), (2, b"", err.rstrip("\n")))
+
+    def test_streams_that_are_not_needed(self):
+        good = run("replay", example("origins")).out
+        for line in ('"$TOOL" replay "$GOOD" <&-', '"$TOOL" replay "$GOOD" < /', '"$TOOL" replay "$GOOD" 2>&-', '"$TOOL" replay "$GOOD" 2< /'):
+            self.assertEqual(self.shell(line), (0, good, ""), line)
+        for line, status in (('"$TOOL" foo 2>&-', 64), ('"$TOOL" foo 2>/dev/full', 64), ('"$TOOL" replay <&- >&- 2>&-', 2), ('"$TOOL" encode /none 2>&-', 2),
+                             ('"$TOOL" replay "$GOOD" -o "$PLACE/out" <&- >&- 2>&-', 0), ('"$TOOL" replay "$GOOD" -o "$PLACE/out" 2>&-', 0)):
+            self.assertEqual(self.shell(line), (status, b"", ""), line)
+        with open(self.path("out"), "rb") as file:
+            self.assertEqual(file.read(), good)
+
+    def test_no_file_gets_the_number_of_a_closed_stream(self):
+        """What is said on standard error must not land in the file that is written."""
+        octets = self.path("octets", b"\x22\0\0\0\7" + b"\x21\0\x09\1\xaa" + b"\x5a" * 254)
+        text = run("decode", octets).out
+        for closed in ("2>&-", "<&- 2>&-", "<&- >&- 2>&-"):
+            self.assertEqual(self.shell('"$TOOL" decode "$PLACE/octets" -o "$PLACE/out" ' + closed).status, 0)
+            with open(self.path("out"), "rb") as file:
+                self.assertEqual(file.read(), text, closed)
+
+    def test_closed_pipes(self):
+        """Ended by the signal, with nothing said."""
+        long = self.path("long", LONG)
+        for words in REPLAYING + (["decode"],):
+            with self.subTest(words):
+                it = self.start(*words, long)
+                self.assertTrue(it.stdout.read(10))
+                it.stdout.close()
+                self.assertEqual((it.stderr.read(), it.wait(60)), (b"", -signal.SIGPIPE))
+        self.assertEqual(self.shell('set -o pipefail; "$TOOL" decode "$PLACE/long" | head -n 1').status, 141)
+        self.assertEqual(self.shell('set -o pipefail; "$TOOL" --help | true').status, 141)
+
+    def test_interrupted(self):
+        for words in REPLAYING + (["encode"], ["decode"], ["replay", "-o", self.path("out")], ["encode", "-o", self.path("out")]):
+            for number in (signal.SIGINT, signal.SIGTERM):
+                with self.subTest(words, signal=number):
+                    it = self.start(*words)
+                    it.stdin.write(b"\x01\0\3" if words != ["encode"] else b"open 1 1\n")
+                    self.settle(it)
+                    it.send_signal(number)
+                    self.assertEqual((it.wait(60), it.stderr.read()), (-number, b""))
+        self.assertEqual(os.listdir(self.place), [], "an unfinished file is left")
+
+    def test_interrupted_at_any_time(self):
+        """From the first moment on: ended by the signal, and nothing said."""
+        if subprocess.run(["env", "--block-signal=INT", "true"], stderr=subprocess.DEVNULL).returncode:
+            self.skipTest("env cannot block a signal here")
+        chance = random.Random(SEED)
+        for _ in range(40):
+            it = self.start("replay")
+            time.sleep(chance.random() * 0.15)
+            it.send_signal(signal.SIGINT)
+            self.assertEqual((it.wait(60), it.stderr.read()), (-signal.SIGINT, b""))
+
+    def settle(self, it):
+        """Until it waits for more input."""
+        for _ in range(600):
+            with open("/proc/%d/stat" % it.pid) as file:
+                state = file.read().rsplit(")", 1)[1].split()[0]
+            with open("/proc/%d/cmdline" % it.pid) as file:
+                python = "__main__" in file.read()
+            names = os.listdir("/proc/%d/fd" % it.pid)
+            if python and state == "S" and len(names) >= 3:
+                time.sleep(0.15)
+                return
+            time.sleep(0.02)
+        self.fail("it never waits")
+
+    def test_interruptions_that_are_ignored_stay_so(self):
+        it = self.start("replay", preexec_fn=lambda: signal.signal(signal.SIGINT, signal.SIG_IGN))
+        self.settle(it)
+        it.send_signal(signal.SIGINT)
+        self.assertEqual(it.communicate(TRACE, timeout=60), (run("replay", example("origins")).out, b""))
+
+    def test_a_disk_that_fills_up(self):
+        """Part of a file is written, then no more is: the old file stays, and no other is left."""
+        def limited():
+            resource.setrlimit(resource.RLIMIT_FSIZE, (100, 100))
+
+        long = self.path("long", LONG)
+        old = self.path("old", b"precious")
+        for words in REPLAYING + (["decode"],):
+            ran = process(*words, long, "-o", old, preexec_fn=limited)
+            self.assertEqual(ran, (2, b"", "%s: File too large\n" % old), words)
+        with open(old, "rb") as file:
+            self.assertEqual(file.read(), b"precious")
+        self.assertEqual(sorted(os.listdir(self.place)), ["long", "old"])
+
+    CLOSE = r"""
+        #define _GNU_SOURCE
+        #include <dlfcn.h>
+        #include <errno.h>
+        #include <stdlib.h>
+        #include <sys/stat.h>
+        int close(int number)
+        {
+            struct stat it;
+            int bad = fstat(number, &it) == 0 && S_ISREG(it.st_mode) && it.st_size > 0 && it.st_ino == strtoul(getenv("FULL_AT_CLOSE"), 0, 10);
+            int (*next)(int) = (int (*)(int))dlsym(RTLD_NEXT, "close");
+            int answer = next(number);
+            if (bad) { errno = ENOSPC; return -1; }
+            return answer;
+        }
+    """
+
+    def test_a_disk_that_is_full_only_at_the_end(self):
+        """Some systems tell that a file has no room when it is closed."""
+        if not shutil.which("gcc"):
+            self.skipTest("no gcc")
+        library, out = self.path("full.so"), self.path("out", b"")
+        subprocess.run(["gcc", "-shared", "-fPIC", "-x", "c", "-", "-o", library, "-ldl"], input=self.CLOSE.encode(), check=True)
+        names = dict(os.environ, LD_PRELOAD=library, FULL_AT_CLOSE=str(os.stat(out).st_ino))
+        with open(out, "wb") as file:
+            done = subprocess.run([TOOL, "encode", example("origins")], stdout=file, stderr=subprocess.PIPE, env=names, timeout=60)
+        self.assertEqual((done.returncode, done.stderr), (2, b"standard output: No space left on device\n"))
+
+    def test_undecodable_names(self):
+        name = os.path.join(os.fsencode(self.place), b"a\xff\n\x1b[31mb")
+        with open(name, "wb") as file:
+            file.write(TRACE)
+        for words in REPLAYING:
+            self.assertEqual(run(*words, os.fsdecode(name))[::2], (0, ""), words)
+        shown = "%s/a\\xFF\\x0A\\x1B[31mb" % self.place
+        self.assertEqual(json.loads(run("records", "--json", os.fsdecode(name)).out.splitlines()[0])["file"], shown)
+        os.unlink(name)
+        self.assertEqual(process("replay", os.fsdecode(name)), (2, b"", shown + ": No such file or directory\n"))
+        self.assertEqual(process(b"fo\xff").status, 64)
+        self.assertEqual(process("encode", example("origins"), "-o", os.fsdecode(name)), (0, b"", ""))
+        self.assertEqual(os.listdir(os.fsencode(self.place)), [os.path.basename(name)])
+
+    def test_names_of_files_in_any_locale(self):
+        for locale in ("C", "POSIX", "C.UTF-8"):
+            ran = process("replay", os.fsdecode(b"/none\xc3\xa9"), env=dict(os.environ, LC_ALL=locale, PYTHONIOENCODING="none", PYTHONPATH=self.place))
+            self.assertEqual(ran, (2, b"", "/none\u00e9: No such file or directory\n"))
+
+    def test_a_file_keeps_its_mode_and_links(self):
+        real, link = self.path("real", b"old"), self.path("link")
+        os.chmod(real, 0o640)
+        os.symlink("real", link)
+        self.assertEqual(run("encode", example("origins"), "-o", link).status, 0)
+        self.assertTrue(os.path.islink(link))
+        self.assertEqual(stat.S_IMODE(os.stat(real).st_mode), 0o640)
+        with open(real, "rb") as file:
+            self.assertEqual(file.read(), TRACE)
+
+    def test_input_that_comes_slowly(self):
+        """Lines come as their records do, in octets; and where a trace stops, nobody waits for the rest of it."""
+        it = self.start("replay")
+        it.stdin.write(TRACE[:12])
+        self.assertEqual(it.stdout.read(13), b"open 0 0 0 0\n")
+        it.stdin.write(b"\7")
+        self.assertEqual((it.stdout.read(), it.wait(60)), (b"stop\n", 3))
+        it = self.start("explain")
+        it.stdin.write(TRACE[:12])
+        self.assertIn(b"open, T 100", it.stdout.read(200))
+        it.stdin.close()
+        self.assertEqual(it.wait(60), 0)
+
+    def test_input_that_does_not_wait(self):
+        ours, theirs = os.pipe()
+        os.set_blocking(ours, False)
+        it = self.start("decode", stdin=ours)
+        self.assertEqual((it.stderr.read(), it.wait(60)), (b"standard input: Resource temporarily unavailable\n", 2))
+        os.close(ours)
+        os.close(theirs)
+
+
+class Programs(Folder):
+    """With programs that fail, or are not there."""
+
+    def with_program(self, name, script, *words, data=TRACE):
+        path = self.path(name, b"#!/bin/sh\n" + script.encode())
+        os.chmod(path, 0o755)
+        return process(*words, data=data, env=dict(os.environ, EGRYNNOL_LIBEXEC=self.place))
+
+    def test_missing(self):
+        for words in REPLAYING:
+            name = "replay" if words == ["replay"] else "records"
+            ran = process(*words, example("origins"), env=dict(os.environ, EGRYNNOL_LIBEXEC=self.place))
+            self.assertEqual(ran.status, 2)
+            self.assertEqual(ran.err, "egrynnol: the program %s is missing: there is no %s; build it with make, or set EGRYNNOL_LIBEXEC to its folder\n"
+                             % (name, self.path(name)))
+
+    def test_not_for_this_machine(self):
+        path = self.path("replay", b"no program")
+        os.chmod(path, 0o755)
+        ran = process("replay", example("origins"), env=dict(os.environ, EGRYNNOL_LIBEXEC=self.place))
+        self.assertEqual(ran[::2], (2, "egrynnol: %s cannot be run: Exec format error\n" % path))
+
+    def test_anything_on_standard_error(self):
+        ran = self.with_program("replay", "cat >/dev/null; echo open 0 0 0 0; printf 'replay: cannot write: x' >&2", "replay")
+        self.assertEqual(ran, (2, b"open 0 0 0 0\n", "replay: cannot write: xegrynnol: replay failed: what it printed is not whole\n"))
+
+    def test_a_failure_keeps_the_old_file(self):
+        old = self.path("old", b"precious")
+        ran = self.with_program("replay", "cat >/dev/null; echo open 0 0 0 0; echo replay: cannot read: x >&2", "replay", "-o", old)
+        self.assertEqual((ran.status, ran.err.splitlines()[-1]), (2, old + ": not written"))
+        with open(old, "rb") as file:
+            self.assertEqual(file.read(), b"precious")
+
+    def test_ended_by_a_signal(self):
+        ran = self.with_program("replay", "kill -SEGV $$", "replay")
+        self.assertEqual(ran[::2], (2, "egrynnol: replay was ended by signal 11 (SIGSEGV)\n"))
+        self.assertEqual(self.with_program("replay", "exit 7", "replay")[::2], (2, "egrynnol: replay ended with status 7\n"))
+
+    def test_nothing_waits_for_anything(self):
+        """Much on both outputs while nothing is read; and nothing is read at all."""
+        script = "head -c 3000000 /dev/zero >&2; head -c 3000000 /dev/zero; cat >/dev/null"
+        ran = self.with_program("replay", script, "replay", data=LONG)
+        self.assertEqual((ran.status, len(ran.out), ran.err.count("\0")), (2, 3000000, 3000000))
+        self.assertEqual(self.with_program("replay", "exec <&-; sleep 0.1; echo stop", "replay", data=LONG)[:2], (3, b"stop\n"))
+
+    def test_nonsense(self):
+        for line in ("event 1", "open 0 0 0 0", "segment 0 0 0 0 1 -", "open 0 0 0 0 1 -\nopen 0 0 0 0 2 -\nopen 0 0 0 0 3 -", "delivered 1 2", "\\377\\376", "stop", "held 1 2 3",
+                     "delivered 9 3 5 1 0 2 2 -", "open 0 0 0 0 1 refused 5", "open 5 0 0 0 1 -", "open 0 0 0 0 %s -" % ("9" * 5000)):
+            for words in (["explain"], ["records", "--json"]):
+                ran = self.with_program("records", "cat >/dev/null; printf '%s\\n'" % line, *words)
+                self.assertEqual(ran.status, 2, line)
+                self.assertRegex(ran.err, r"\Aegrynnol: records (printed|stopped) [^\n]+\n\Z")
+
+    def test_a_file_that_cannot_be_read_to_its_end(self):
+        """It must not look like the end of the trace: nothing is told as held."""
+        ours, theirs = os.pipe()
+        os.set_blocking(ours, False)
+        os.write(theirs, TRACE[:12 + 259])
+        it = self.start("records", stdin=ours)
+        out, err = it.communicate(timeout=60)
+        self.assertEqual((it.returncode, err), (2, b"standard input: Resource temporarily unavailable\n"))
+        self.assertNotIn(b"held", out)
+        os.close(ours)
+        os.close(theirs)
+
+    def test_a_number_is_not_read_from_once_it_may_be_another_file(self):
+        """A program can stop while a thread of ours still reads the trace for it."""
+        ours, theirs = os.pipe()
+        raw = streams.Raw(ours, "T")
+        raw.stop()
+        self.assertRaises(OSError, os.fstat, ours)
+        again = os.dup(theirs)
+        self.assertEqual((again, raw.some(10)), (ours, b""))
+        os.close(again)
+        os.close(theirs)
+        ours, theirs = os.pipe()
+        raw, got = streams.Raw(ours, "T"), []
+        waits = threading.Thread(target=lambda: got.append(raw.some(10)))
+        waits.start()
+        while not raw.reading:
+            time.sleep(0.01)
+        raw.stop()
+        os.fstat(ours)
+        os.write(theirs, b"x")
+        waits.join(60)
+        self.assertEqual((got, raw.some(10)), ([b"x"], b""))
+        os.close(ours)
+        os.close(theirs)
+
+    def test_where_they_are(self):
+        """The variable, then as installed, then as built."""
+        names = os.environ.pop(programs.VARIABLE, None)
+        keep = programs.command_folder
+        try:
+            programs.command_folder = os.path.join(self.place, "bin")
+            self.assertEqual(programs.folder(), os.path.join(self.place, "target", "bin"))
+            os.makedirs(os.path.join(self.place, "libexec", "egrynnol"))
+            os.makedirs(os.path.join(self.place, "bin"))
+            self.assertEqual(programs.folder(), os.path.join(self.place, "libexec", "egrynnol"))
+            os.environ[programs.VARIABLE] = "elsewhere"
+            self.assertEqual(programs.folder(), "elsewhere")
+        finally:
+            programs.command_folder = keep
+            os.environ.pop(programs.VARIABLE, None)
+            if names is not None:
+                os.environ[programs.VARIABLE] = names
+
+
+class TextOrOctets(Folder):
+
+    def test_told_apart(self):
+        for octets, text in ((b"context 1998 3\n", True), (b"  open 1 1", True), (b"# why\n", True), (b"# why\n\n \t# more\r\nclock 1\r\n", True), (b"\xef\xbb\xbf# x\n", True),
+                             (b"opne 100 0\n", True), (b"#A", True), (b"", True), (b"# caf\xc3\xa9\nopen 1 1\n", True), (b"#ABclock", True),
+                             (b"context 1998 3\n# \0", True), (b"\n\nclock 1", True), (b" context 1998 3\n", True),
+                             (b"\1\0\3", False), (b" \0\0\0d\0\0\0\0", False), (b"#AB", False), (b"#AB#CD", False), (b'"abcd', False), (b"!AB " + b"x" * 255, False),
+                             (b"#\0\t", False), (b"\0", False), (b"# \0context 1998 3\n", False)):
+            self.assertEqual(bool(streams.told(octets, True)), text, octets)
+
+    def test_as_little_as_is_needed(self):
+        for octets in (b"#AB", b"#A", b"# ", b"", b"!AB " + b"x" * 200):
+            self.assertIsNone(streams.told(octets, False), octets)
+        self.assertEqual(streams.told(b"#AB" * 30000, False), False)
+
+    def test_options_decide(self):
+        self.assertEqual(run("replay", data=b"#AB"), (0, b"release 1 0 0 0\n", ""))
+        self.assertEqual(run("replay", "--text", data=b"#AB"), (0, b"", ""))
+        self.assertEqual(run("replay", "--octets", data=b"clock 1\n"), (3, b"stop\n", ""))
+        self.assertEqual(run("replay", "--text", data=TRACE).status, 1)
+
+    def test_every_example_both_ways(self):
+        for name in examples():
+            octets = run("encode", example(name)).out
+            for words in (["replay"], ["records"]):
+                self.assertEqual(run(*words, data=octets), run(*words, example(name)), name)
+
+
+def as_line(row):
+    """The line of records that a row of a table was made from, without the table's code."""
+    if row["row"] == "stop":
+        return "stop"
+    if row["row"] == "event":
+        decided = row["decision"] or "-"
+        decided += " %s" % row["refusal"] if decided == "refused" else " %s" % row["place"] if decided == "saved" else ""
+        return "%s %s %s %s %s %s %s" % (row["name"], row["refusal"], row["records"], row["octets_delivered"], row["octets_lost"], row["event"], decided)
+    origin = re.sub("^0x", "", row["origin"]) or "-"
+    reference = "-" if row["reference"] in (None, "") else row["reference"]
+    return "%s %s %s %s %s %s %s %s %s" % (row["row"], row["association"], row["context"], reference, row["instruction"], row["cause"], row["segments"], row["octets"], origin)
+
+
+class Tables(Folder):
+
+    def check(self, path, text):
+        """Both tables say what the lines say, and where."""
+        lines = run("records", path).out.decode().splitlines()
+        csv_rows = list(csv.DictReader(io.StringIO(run("records", "--csv", path).out.decode(), newline="")))
+        json_rows = [json.loads(line) for line in run("records", "--json", path).out.decode().splitlines()]
+        self.assertEqual([as_line(row) for row in csv_rows], lines)
+        self.assertEqual([as_line(row) for row in json_rows], lines)
+        for left, right in zip(csv_rows, json_rows):
+            self.assertEqual(list(left), list(right))
+            self.assertTrue(all(isinstance(value, (int, type(None))) for key, value in right.items() if key not in ("file", "row", "name", "decision", "origin")))
+        self.places(json_rows, path, text)
+
+    def places(self, found, path, text):
+        """An event's line has its name on it, and its records the same line; what is held has none."""
+        with open(path, "rb") as file:
+            octets = file.read()
+        event = None
+        for row in found:
+            where = (row["line"], row["offset"])
+            self.assertEqual(row["line" if not text else "offset"], None)
+            if row["row"] == "event":
+                event = (row["event"], where)
+                word = octets.splitlines()[row["line"] - 1].split()[0].decode() if text else {32: "open", 33: "segment", 34: "clock", 35: "release"}[octets[row["offset"]]]
+                self.assertEqual(word, row["name"])
+            elif row["row"] == "held":
+                self.assertEqual((row["event"], where), (None, (None, None)))
+            elif row["row"] == "stop":
+                self.assertIsNone(row["event"])
+                self.assertNotEqual(where, (None, None))
+            else:
+                self.assertEqual((row["event"], where), event)
+
+    def test_examples(self):
+        for name in examples():
+            self.check(example(name), True)
+            self.check(self.path(name, run("encode", example(name)).out), False)
+
+    def test_every_kind_of_row(self):
+        text = self.path("t", b"context 2000 4\nopen 100 0\n\nsegment 9 84 80 41 85 02 00 07 00 AA\nopen 0 0 # drops\nopen 100 0\nsegment 9 84 80 41 85 01 1E 00 AA\ncontext 1998 3\n")
+        self.check(text, True)
+        found = [json.loads(line) for line in run("records", "--json", text).out.decode().splitlines()]
+        self.assertEqual([row["row"] for row in found], ["event", "event", "event", "dropped", "event", "event", "held", "stop"])
+        self.assertEqual([row["line"] for row in found], [2, 4, 5, 5, 6, 7, None, 8])
+        self.assertEqual([row["origin"] for row in found if row["origin"]], ["0007", "1E"])
+
+    def test_a_spreadsheet_must_not_take_an_origin_for_a_number(self):
+        self.assertIn(b",0x0007\n", run("records", "--csv", example("origins")).out)
+
+    def test_to_a_file(self):
+        out = self.path("table.csv")
+        self.assertEqual(run("records", "--csv", example("billing-day"), "-o", out), (0, b"", ""))
+        with open(out, "rb") as file:
+            self.assertEqual(file.read(), run("records", "--csv", example("billing-day")).out)
+
+
+class Help(Folder):
+
+    def test_help_of_each(self):
+        top = run("--help")
+        self.assertEqual(top[::2], (0, ""))
+        for name in SUBCOMMANDS:
+            self.assertRegex(top.out.decode(), r"(?m)^  %s +\w" % name)
+            for word in ("--help", "-h"):
+                ran = run(name, word)
+                self.assertEqual(ran[::2], (0, ""))
+                self.assertTrue(ran.out.startswith(b"usage: egrynnol %s " % name.encode()))
+                self.assertIn(b"Exit status: 0 good; 1 bad input; 2", ran.out)
+
+    def test_version(self):
+        with open(os.path.join(ROOT, "Makefile")) as file:
+            self.assertIn("\nVERSION = %s\n" % VERSION, file.read())
+        self.assertEqual(process("--version"), (0, b"egrynnol %s\n" % VERSION.encode(), ""))
+
+    def test_one_more_is_an_entry_and_a_function(self):
+        def further(options, out):
+            out.write(b"further\n")
+            return commands.STOPPED
+
+        keep = commands.COMMANDS
+        commands.COMMANDS += (commands.Command("further", further, "one more", "More of it.\n", ("out",)),)
+        try:
+            self.assertEqual(run("further"), (3, b"further\n", ""))
+            self.assertIn(b"  further    one more\n", run("--help").out)
+            self.assertIn(b"More of it.", run("further", "--help").out)
+            self.assertEqual(run("further", "x").status, 64)
+        finally:
+            commands.COMMANDS = keep
+
+    def complete(self, *words):
+        script = 'source "$1"; shift; COMP_WORDS=("$@"); COMP_CWORD=$(($# - 1)); _egrynnol; printf "%s\\n" "${COMPREPLY[@]}"'
+        done = subprocess.run(["bash", "-c", script, "bash", os.path.join(TOOLS, "egrynnol.bash"), *words], stdout=subprocess.PIPE, check=True, cwd=self.place)
+        return set(done.stdout.decode().split())
+
+    def test_completion(self):
+        self.assertEqual(self.complete(TOOL, ""), set(SUBCOMMANDS) | {"--help", "--version"})
+        self.assertEqual(self.complete(TOOL, "re"), {"replay", "records"})
+        self.path("a.trace", b"")
+        self.assertEqual(self.complete(TOOL, "replay", ""), {"a.trace"})
+        self.assertEqual(self.complete(TOOL, "from-pcap", "--tick", ""), set())
+        for name in SUBCOMMANDS:
+            parser = commands.parser_of(next(command for command in commands.COMMANDS if command.name == name))
+            options = {words[-1] for words in (action.option_strings for action in parser._actions) if words}
+            self.assertEqual(self.complete(TOOL, name, "-"), options, name)
+        self.assertEqual(self.complete(TOOL, "records", "--j"), {"--json"})
+
+
+class Sweep(Folder):
+    """Random and damaged inputs over every subcommand: a status of the list, and never a traceback."""
+
+    WORDS = REPLAYING + (["encode"], ["decode"], ["replay", "--text"], ["records", "--csv", "--octets"], ["explain", "--text"], ["explain", "--octets"])
+
+    def some_input(self, chance):
+        with open(example(chance.choice(examples())), "rb") as file:
+            octets = file.read()
+        if chance.random() < 0.5:
+            octets = run("encode", data=octets).out
+        octets = bytearray(octets[:chance.choice([len(octets), 2000, 300])])
+        for _ in range(chance.choice([0, 1, 3, 30])):
+            at = chance.randrange(len(octets))
+            octets[at:at + chance.choice([0, 1, 1, 5])] = bytes(chance.choice([0, 10, 32, 33, 34, 35, 124, 255, chance.randrange(256)]) for _ in range(chance.choice([0, 1, 1, 3])))
+        if chance.random() < 0.2:
+            octets = bytes(chance.choice(b"!\"# \n\t0123456789abcdefx:|openclocksegment\0\xff") for _ in range(chance.randrange(80)))
+        return bytes(octets[:chance.randrange(len(octets) + 1)] if chance.random() < 0.3 else octets)
+
+    def test_no_traceback(self):
+        chance = random.Random(SEED)
+        seen = set()
+        for _ in range(RUNS):
+            data, words = self.some_input(chance), chance.choice(self.WORDS)
+            ran = run(*words, data=data)
+            self.assertIn(ran.status, (0, 1, 3), (words, data, ran))
+            self.assertIsNone(FAULTS.search(ran.err), (words, data, ran.err))
+            self.assertEqual(ran.status == 1, ran.err != "" and "note: " not in ran.err, (words, data, ran))
+            seen.add((words[0], ran.status))
+        for name in ("replay", "records", "explain"):
+            self.assertTrue({(name, 0), (name, 1), (name, 3)} <= seen, seen)
+
+    def test_no_traceback_on_any_words(self):
+        chance = random.Random(SEED + 1)
+        words = SUBCOMMANDS + ["-o", "--csv", "--json", "--text", "--octets", "--help", "-h", "--version", "--", "-", "--tick", "--timer", "--filter", "", "\udcff", "x", "/", "0", "-1",
+                               "/dev/null", "--tick=1", "--text=1", "-ox", "\n", "a" * 5000]
+        for _ in range(RUNS // 2):
+            chosen = [chance.choice(SUBCOMMANDS)] * (chance.random() < 0.8) + [chance.choice(words) for _ in range(chance.randrange(5))]
+            ran = self.run_there(chosen)
+            self.assertIn(ran.status, (0, 1, 2, 3, 64), (chosen, ran))
+            self.assertIsNone(FAULTS.search(ran.err), (chosen, ran.err))
+
+    def run_there(self, words):
+        """So that a file that is written is written there."""
+        here = os.getcwd()
+        os.chdir(self.place)
+        try:
+            return run(*words)
+        finally:
+            os.chdir(here)
+
+
+if __name__ == "__main__":
+    unittest.main()

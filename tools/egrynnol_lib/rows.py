@@ -1,0 +1,135 @@
+"""The lines of the program records as rows, beside the trace's own records; rows as CSV and as JSON."""
+
+import collections
+import csv
+import io
+import json
+import re
+
+from egrynnol_lib.programs import lines_printed
+from egrynnol_lib.streams import Failed
+from egrynnol_lib.traces import OPEN, WORDS, Bad, parsed
+
+# row: event, delivered, lost, dropped, held or stop. What a row has no part in is None.
+COLUMNS = ("file", "row", "event", "line", "offset", "name", "refusal", "records", "octets_delivered", "octets_lost", "decision", "place",
+           "association", "context", "reference", "instruction", "cause", "segments", "octets", "origin")
+Row = collections.namedtuple("Row", COLUMNS)
+NOTHING = Row(*[None] * len(COLUMNS))
+
+NUMBER = r"([0-9]{1,19})"
+EVENT = re.compile(r"(open|segment|clock|release) N N N N N (?:(refused) N|(saved) N|(delivered|lost|-))\Z".replace("N", NUMBER))
+UNDER = re.compile(r"(delivered|lost|dropped|held) N N (-|[0-9]{1,19}) N N N N ((?:[0-9A-F]{2})+|-)\Z".replace("N", NUMBER))
+
+
+def row_of(line):
+    """The row of a line that records printed."""
+    event, under = EVENT.match(line), UNDER.match(line)
+    if event:
+        name, *numbers = event.groups()[:6]
+        refused, number, saved, place, other = event.groups()[6:]
+        if numbers[0] != (number or "0"):
+            raise Failed("records printed refusals that differ: %s" % line)
+        decision = refused or saved or (other if other != "-" else None)
+        numbers = dict(zip(("refusal", "records", "octets_delivered", "octets_lost", "event"), map(int, numbers)))
+        return NOTHING._replace(row="event", name=name, decision=decision, place=int(place) if place else None, **numbers)
+    if under:
+        name, association, context, reference, *numbers, origin = under.groups()
+        numbers = dict(zip(("instruction", "cause", "segments", "octets"), map(int, numbers)))
+        return NOTHING._replace(row=name, association=int(association), context=int(context), reference=None if reference == "-" else int(reference),
+                                origin="" if origin == "-" else origin, **numbers)
+    if line == "stop":
+        return NOTHING._replace(row="stop")
+    raise Failed("records printed what is not understood: %s" % line[:80])
+
+
+# One record of the trace: index from 0, offset in octets, and the record, or why there is none (Bad).
+Item = collections.namedtuple("Item", "index offset record")
+
+
+class Beside:
+    """A trace given to records: its records as they go in, and the rows as they come out."""
+
+    def __init__(self, trace):
+        self.trace, self.items, self.opened = trace, collections.deque(), False
+
+    def pieces(self):
+        """What records is fed. An item is there before its octets are, so before its row."""
+        index = 0
+        for block, found in parsed(self.trace.stream):
+            for offset, record in found:
+                self.items.append(Item(index, offset, record))
+                index += 1
+            yield block
+
+    def place_of(self, item):
+        """The columns that say where in the input an item is."""
+        if self.trace.lines is None:
+            return {"offset": item.offset}
+        return {"line": self.trace.lines[item.index]}
+
+    def batches(self):
+        """Lists of pairs of a row and its item. A registered context has no row, and what is held no item."""
+        event = None
+        for lines in lines_printed("records", self.pieces()):
+            pairs = []
+            for line in lines:
+                row = row_of(line)
+                if row.row == "event":
+                    pairs += self.contexts()
+                    event = (self.event(row), row.event)
+                elif row.row in ("held", "stop"):
+                    pairs += self.contexts()
+                    event = (self.stopped_at() if row.row == "stop" else None, None)
+                if event is None:
+                    raise Failed("records printed a record before any event: %s" % line)
+                pairs.append((self.placed(row, *event), event[0]))
+            yield pairs
+        yield list(self.contexts())
+
+    def event(self, row):
+        """The item that an event's row is of."""
+        item = self.items.popleft() if self.items else None
+        if item is None or isinstance(item.record, Bad) or WORDS.get(row.name) != item.record.kind:
+            raise Failed("records printed event %d, which is not the trace's" % row.event)
+        self.opened = self.opened or item.record.kind == OPEN
+        return item
+
+    def contexts(self):
+        """The registered contexts up to the next event, or up to where it stops."""
+        while self.items and not self.opened and isinstance(self.items[0].record, tuple) and self.items[0].record.kind < OPEN:
+            yield None, self.items.popleft()
+
+    def stopped_at(self):
+        """Where the trace is not understood from; its record is why."""
+        item = self.items[0] if self.items else None
+        if item and isinstance(item.record, Bad):
+            return item
+        if item and self.opened and item.record.kind < OPEN:
+            return item._replace(record=Bad("a registered context after the first open"))
+        raise Failed("records stopped where the trace does not")
+
+    def placed(self, row, item, event):
+        where = self.place_of(item) if item else {}
+        return row._replace(file=self.trace.name, event=event, **where)
+
+
+# ---- tables ----
+
+def csv_line(cells):
+    out = io.StringIO()
+    csv.writer(out, lineterminator="\n").writerow(cells)
+    return out.getvalue()
+
+
+def csv_head():
+    return csv_line(COLUMNS)
+
+
+def csv_of(row):
+    """An origin has 0x before it: a spreadsheet takes 0007 and 07 for one number, and 1E05 for 100000."""
+    origin = "0x" + row.origin if row.origin else ""
+    return csv_line("" if cell is None else cell for cell in row._replace(origin=origin))
+
+
+def json_of(row):
+    return json.dumps(row._asdict()) + "\n"

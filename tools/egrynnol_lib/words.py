@@ -1,0 +1,254 @@
+"""A trace in words: what the proved programs answered, and beside it what each parameter says when it is read alone."""
+
+from egrynnol_lib.traces import FORMS, OPEN, SEGMENT, hexed
+
+REFUSALS = {
+    1: "nothing is open: there was no opening, or the last one was refused",
+    2: "the store is too short",
+    3: "the report area is too short",
+    4: "the parameter is over 255 octets",
+    5: "the parameter ends inside its fields",
+    6: "octet 1a, 2 or 3a has extension 0",
+    7: "octet 3a is present or absent wrongly",
+    8: "the context is not registered",
+    9: "an address is over 20 octets",
+    10: "a new sequence, and none of the 16 places is free",
+    11: "the registry has a context that is not 1 to 16,383, or one twice, or over 8 of them",
+    12: "T is not 1 to 1,000,000",
+    13: "the clock's step is 2^31 or more, which is a step back",
+}
+CAUSES = {
+    1: "a later segment, and no sequence of its key is open",
+    2: "a segment is missing or out of turn: remaining is not one less than before",
+    3: "a first segment of the same key came again: what was saved is lost, and this segment is saved in its place",
+    4: "more than 9 segments remaining",
+    5: "more than 2,048 octets together",
+    6: "the timer: T ticks or more have passed since the first segment",
+    7: "the association was released",
+}
+
+
+def count(number, what="octet"):
+    return "%d %s%s" % (number, what, "" if number == 1 else "s")
+
+
+# ---- one parameter, read alone ----
+
+class Ends(Exception):
+    """Reading a parameter alone goes no further; the text says why."""
+
+
+class Reading:
+    """A parameter read from left to right, told line by line; never what the information is.
+    It knows nothing of what is open, so it says nothing of what the machine did."""
+
+    def __init__(self, octets):
+        self.octets, self.at, self.lines = octets, 0, []
+
+    def octet(self, name):
+        if self.at == len(self.octets):
+            raise Ends("it ends where %s should be" % name)
+        self.at += 1
+        return self.octets[self.at - 1]
+
+    def last_octet(self, name):
+        """An octet that has to end its field."""
+        value = self.octet(name)
+        if value < 128:
+            raise Ends("%s, octet %d of it, has extension 0 where it has to be 1" % (name, self.at))
+        return value - 128
+
+    def context(self, registry):
+        first = self.octet("octet 1")
+        high = self.last_octet("octet 1a") if first < 128 else 0
+        context = first % 128 + 128 * high
+        form = ", written in two octets" if first < 128 and not high else ""
+        self.lines.append("context %d%s: %s" % (context, form, registry.words(context)))
+        return registry.kinds(context)
+
+    def instruction(self):
+        value = self.last_octet("octet 2")
+        answer = ("no", "yes")
+        spare = "; spare bits are not 0, ignored" if value > 3 else ""
+        self.lines.append("instruction %d: send notification %s, release call %s%s"
+                          % (value % 4, answer[value // 2 % 2], answer[value % 2], spare))
+
+    def sequence(self):
+        value = self.octet("octet 3")
+        present, new, remaining = value < 128, value // 64 % 2 == 1, value % 64
+        over = " (over 9, more than a sequence can have)" if remaining > 9 else ""
+        self.lines.append("%s segment, %s remaining%s"
+                          % ("new" if new else "subsequent", count(remaining, "segment"), over))
+        if present:
+            self.lines.append("reference %d" % self.last_octet("octet 3a"))
+        single = new and remaining == 0
+        if single and present:
+            raise Ends("octet 3 says new, 0 remaining, so octet 3a has to be absent, and it is present")
+        if not single and not present:
+            raise Ends("octet 3 does not say new, 0 remaining, so octet 3a has to be present, and it is absent")
+        if single:
+            self.lines.append("unsegmented: no reference")
+
+    def address(self, name):
+        length = self.octet("the length octet of the %s address" % name)
+        if length > 20:
+            raise Ends("the length octet of the %s address says %d, over 20" % (name, length))
+        left = len(self.octets) - self.at
+        # A cut address is not shown: what is there may be information.
+        if left < length:
+            raise Ends("it ends inside the %s address, with %d of its %s" % (name, left, count(length)))
+        octets = self.octets[self.at:self.at + length]
+        self.at += length
+        self.lines.append("%s address: %s%s" % (name, count(length), ": " + hexed(octets) if octets else ""))
+
+    def rest(self, kinds):
+        left = len(self.octets) - self.at
+        if len(kinds) != 1:
+            self.lines.append("%s left: whether addresses are among them, the registry does not say" % count(left))
+            return
+        if 2 in kinds:
+            self.address("originating")
+            self.address("destination")
+        self.lines.append("information: %s" % count(len(self.octets) - self.at))
+
+
+def read_alone(octets, registry):
+    """The reading of a parameter, as far as it can be read alone."""
+    reading = Reading(octets)
+    try:
+        kinds = reading.context(registry)
+        reading.instruction()
+        reading.sequence()
+        reading.rest(kinds)
+    except Ends as end:
+        reading.lines.append("not read on: %s" % end)
+    return reading
+
+
+class Registry:
+    """The contexts that a trace has listed so far."""
+
+    def __init__(self):
+        self.listed = []
+
+    def add(self, context, kind):
+        self.listed.append((context, kind))
+
+    def kinds(self, context):
+        return {kind for listed, kind in self.listed if listed == context and context}
+
+    def words(self, context):
+        kinds = self.kinds(context)
+        if not context:
+            return "never registered"
+        if not kinds:
+            return "not listed so far in this trace"
+        if len(kinds) == 2:
+            return "listed as of 1998 and as of 2000"
+        return "listed as of 1998, no address fields" if 1 in kinds else "listed as of 2000, with address fields"
+
+    def oddities(self):
+        """What a reader may look at where an opening was refused for the registry."""
+        contexts = [context for context, _ in self.listed]
+        for context in sorted(set(contexts)):
+            if contexts.count(context) > 1:
+                yield "context %d is listed %s" % (context, count(contexts.count(context), "time"))
+            if not 1 <= context <= 16383:
+                yield "context %d is not 1 to 16,383" % context
+        if len(contexts) > 8:
+            yield "%s are listed, over 8" % count(len(contexts), "context")
+
+
+# ---- what was answered ----
+
+def fields(row):
+    """What a record covers, and whose it is."""
+    reference = "unsegmented" if row.reference is None else "reference %d" % row.reference
+    origin = "originating address " + hexed(bytes.fromhex(row.origin)) if row.origin else "no originating address"
+    return "%s in %s; association %d, context %d, %s, instruction %d, %s" % (
+        count(row.octets), count(row.segments, "segment"), row.association, row.context, reference, row.instruction, origin)
+
+
+def answer_lines(row):
+    """What was decided of an event, and the sum where its records are more than one."""
+    if row.decision == "refused":
+        yield "refused %d: %s" % (row.refusal, REFUSALS.get(row.refusal, "a number that a trace does not meet"))
+    elif row.decision == "saved":
+        yield "saved in place %d" % row.place
+    elif row.decision is None:
+        yield "accepted" + ("" if row.records or row.name == "open" else ", nothing lost")
+    if row.records > 1:
+        yield "%s: %s delivered, %s lost" % (count(row.records, "record"), count(row.octets_delivered), count(row.octets_lost))
+
+
+def under_line(row):
+    if row.row == "delivered":
+        return "delivered: " + fields(row)
+    if row.row == "lost":
+        return "lost, cause %d (%s): %s" % (row.cause, CAUSES.get(row.cause, "unknown"), fields(row))
+    if row.row == "dropped":
+        return "dropped by this opening, with no record: " + fields(row)
+    return "held, still open and in no record: " + fields(row)
+
+
+class Teller:
+    """The lines that tell a trace, pair by pair of a row of records and the trace's own record."""
+
+    def __init__(self, trace):
+        self.trace, self.registry, self.alone, self.held = trace, Registry(), [], False
+
+    def where(self, item):
+        return "line %d" % self.trace.lines[item.index] if self.trace.lines is not None else "offset %d" % item.offset
+
+    def lines(self, row, item):
+        if row is None:
+            yield from self.rest()
+            yield from self.context(item)
+        elif row.row == "event":
+            yield from self.event(row, item)
+        elif row.row == "stop":
+            yield from self.rest()
+            yield "%s: stop, nothing is read from here on" % self.where(item)
+            yield "    read alone, %s" % item.record
+        else:
+            yield from self.under(row)
+
+    def rest(self):
+        """What of the last event is still to be told: its own parameter, after its records."""
+        lines, self.alone = self.alone, []
+        return lines
+
+    def context(self, item):
+        context, = item.record.numbers
+        self.registry.add(context, item.record.kind)
+        return ["%s: %s %d" % (self.where(item), FORMS[item.record.kind][0], context)]
+
+    def event(self, row, item):
+        yield from self.rest()
+        yield "%s, event %d: %s" % (self.where(item), row.event, head(item.record))
+        for line in answer_lines(row):
+            yield "    " + line
+        if item.record.kind == SEGMENT:
+            self.alone = ["    read alone, the parameter says:"]
+            self.alone += ["        " + line for line in read_alone(item.record.octets, self.registry).lines]
+            if item.record.past:
+                self.alone.append("        octets past its length are not all zero; they do not count")
+        elif row.refusal == 11:
+            self.alone = ["    read alone, of the registry: %s" % line for line in self.registry.oddities()]
+
+    def under(self, row):
+        if row.row == "held" and not self.held:
+            self.held = True
+            yield from self.rest()
+            yield "at the end:"
+        yield "    " + under_line(row)
+
+
+def head(record):
+    """A record's own numbers."""
+    if record.kind == OPEN:
+        return "open, T %d, clock %d" % record.numbers
+    if record.kind == SEGMENT:
+        return "segment, association %d, parameter of %s" % (record.numbers[0], count(len(record.octets)))
+    name, ((field, _),) = FORMS[record.kind]
+    return "%s, %s %d" % (name, field, record.numbers[0])
