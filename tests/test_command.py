@@ -544,8 +544,8 @@ class Help(Folder):
                 self.assertIn(b"Exit status: 0 good; 1 bad input; 2", ran.out)
 
     def test_version(self):
-        with open(os.path.join(ROOT, "Makefile")) as file:
-            self.assertIn("\nVERSION = %s\n" % VERSION, file.read())
+        with open(os.path.join(ROOT, "include", "egrynnol.h")) as file:
+            self.assertIn('\n#define EGRYNNOL_VERSION_STRING "%s"\n' % VERSION, file.read())
         self.assertEqual(process("--version"), (0, b"egrynnol %s\n" % VERSION.encode(), ""))
 
     def test_one_more_is_an_entry_and_a_function(self):

@@ -1,3 +1,3 @@
 """The command egrynnol: traces of the application transport, over the proved programs."""
 
-VERSION = "1.0"  # the Makefile's too
+VERSION = "1.0.0"  # the header's too
