@@ -1,12 +1,13 @@
 -- One lap by what the sender's and the receiver's calls promise, and laps one after the other.
 use Prim.Native.Nat.{ℕ, suc, _+_, _-_, _≤_, _<_}
 use mathlib.Core.Path.{_≡_, sym, _∙_}
-use mathlib.Core.List.{List}
+use mathlib.Core.List.{List, []}
 use native.Mathlib.Omega.{arith}
 use native.Mathlib.Numerals.{add-one}
 use lib.ListN.{take}
 use Rattle.rules.specs.Receiving.{Reception, segment}
 use Rattle.rules.specs.Sending.{sending}
+use Rattle.rules.specs.Calls.{State, stateOf, Lent, lending}
 use Rattle.rules.specs.Promises.{OfSegment, OfSending}
 use Rattle.rules.specs.declared.Table.{Table}
 use Rattle.rules.specs.declared.Request.{Request}
@@ -19,31 +20,31 @@ use Rattle.loop_laps.specs.declared.Looped.{Looped}
 -- a segment that is a part of the area
 pub receipt : (t : Table) (store report : List ℕ) (association : ℕ) (s s′ : List ℕ) (n : ℕ) (r : Received) (store′ report′ : List ℕ)
     → OfSegment t store report association s r store′ report′ → s ≡ s′
-    → OfReceipt (segment t store report association s′) n (record { table = r .table; decision = r .decision; length = n; number = 0 }) store′ report′
+    → OfReceipt (segment t store report association s′) n (record { table = r .table; decision = r .decision; length = n; number = 0 }) store′ (lending report′ [])
 receipt t store report association s s′ n r store′ report′ k e =
     record {
       answered = (λ i. record { table = k .answered i .table; decision = k .answered i .decision; length = n; number = 0 })
           ∙ (λ i. received (segment t store report association (e i)) n);
       stored = k .stored ∙ (λ i. segment t store report association (e i) .store);
-      reported = k .reported ∙ (λ i. segment t store report association (e i) .report);
+      lent = (λ i. lending (k .reported i) []) ∙ (λ i. lending (segment t store report association (e i) .report) []);
     }
 
-module _ (x : Asked) (k : ℕ) (t : Table) (store report : List ℕ) where
+module _ (x : Asked) (k : ℕ) (st : State) (lent : Lent) where
   cut : ℕ → List ℕ → Lap
   cut n area =
-      let r : Reception = segment t store report (x .association) (take n area) in
-      record { table = r .answer .table; store = r .store; report = r .report; area = area; decision = r .answer .decision; length = n }
+      let r : Reception = segment (st .table) (st .store) (lent .report) (x .association) (take n area) in
+      record { state = stateOf (r .answer .table) (r .store); lent = lending (r .report) area; decision = r .answer .decision; length = n }
 
-  pub one-lap : (area area′ : List ℕ) (q : Request) (s : Sent) (answer : Looped) (store′ report′ : List ℕ) → q ≡ numbered (x .request) k
-      → OfSending (x .table) q (x .origin) (x .destination) (x .whole) area s area′
-      → OfReceipt (segment t store report (x .association) (take (s .length) area′)) (s .length) answer store′ report′
-      → OfLap (lap x k (standing t store report area)) answer store′ report′ area′
+  pub one-lap : (area′ : List ℕ) (q : Request) (s : Sent) (answer : Looped) (store′ : List ℕ) (lent′ : Lent) → q ≡ numbered (x .request) k
+      → OfSending (x .table) q (x .origin) (x .destination) (x .whole) (lent .area) s area′
+      → OfReceipt (segment (st .table) (st .store) (lent .report) (x .association) (take (s .length) area′)) (s .length) answer store′ lent′
+      → OfLap (lap x k (standing st lent)) answer store′ (lending (lent′ .report) area′)
   unfolding cut
-  one-lap area area′ q s answer store′ report′ e sent got =
+  one-lap area′ q s answer store′ lent′ e sent got =
       record {
-        lapped = (λ i. lapOf (got .answered i) (got .stored i) (got .reported i) area′)
+        lapped = (λ i. lapOf (got .answered i) (got .stored i) (lending (got .lent i .report) area′))
             ∙ (λ i. cut (sent .answered i .length) (sent .written i))
-            ∙ (λ i. cut (sending (x .table) (e i) (x .origin) (x .destination) (x .whole) area .answer .length) (sending (x .table) (e i) (x .origin) (x .destination) (x .whole) area .area));
+            ∙ (λ i. cut (sending (x .table) (e i) (x .origin) (x .destination) (x .whole) (lent .area) .answer .length) (sending (x .table) (e i) (x .origin) (x .destination) (x .whole) (lent .area) .area));
         number = λ i. got .answered i .number;
       }
 

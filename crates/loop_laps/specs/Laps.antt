@@ -1,10 +1,11 @@
 -- What a loopback does segment by segment: each is cut by the sender, and handed to the receiver as it is cut. The sender's table stays as it came.
 use Prim.Native.Nat.{ℕ, zero, suc}
 use mathlib.Core.Path.{_≡_}
-use mathlib.Core.List.{List}
+use mathlib.Core.List.{List, []}
 use lib.ListN.{take}
 use Rattle.rules.specs.Receiving.{Reception, segment}
 use Rattle.rules.specs.Sending.{Sending, sending}
+use Rattle.rules.specs.Calls.{State, stateOf, Lent, lending}
 use Rattle.rules.specs.declared.Table.{Table}
 use Rattle.rules.specs.declared.Request.{Request}
 use Rattle.rules.specs.declared.Decision.{Decision}
@@ -24,42 +25,41 @@ pub record Asked : Type 0 where
 abbrev pub asked : Table → Request → ℕ → List ℕ → List ℕ → List ℕ → Asked
 asked t q association o d whole = record { table = t; request = q; association = association; origin = o; destination = d; whole = whole }
 
--- what there is between two segments: the receiver's table and areas, and of the last one its decision and its length
+-- what there is between two segments: the receiver's table and store, the areas lent beside them, and of the last one its decision and its length
 pub record Lap : Type 0 where
-  pub table : Table
-  pub store : List ℕ
-  pub report : List ℕ
-  pub area : List ℕ
+  pub state : State
+  pub lent : Lent
   pub decision : Decision
   pub length : ℕ
 
 -- segment k is cut, and received
 abbrev pub lap : Asked → ℕ → Lap → Lap
 lap x k l =
-    let o : Sending = sending (x .table) (numbered (x .request) k) (x .origin) (x .destination) (x .whole) (l .area) in
-    let r : Reception = segment (l .table) (l .store) (l .report) (x .association) (take (o .answer .length) (o .area)) in
-    record { table = r .answer .table; store = r .store; report = r .report; area = o .area; decision = r .answer .decision; length = o .answer .length }
+    let o : Sending = sending (x .table) (numbered (x .request) k) (x .origin) (x .destination) (x .whole) (l .lent .area) in
+    let r : Reception = segment (l .state .table) (l .state .store) (l .lent .report) (x .association) (take (o .answer .length) (o .area)) in
+    record { state = stateOf (r .answer .table) (r .store); lent = lending (r .report) (o .area); decision = r .answer .decision; length = o .answer .length }
 
 -- n segments from segment k on
 unfoldable pub laps : ℕ → ℕ → Asked → Lap → Lap
 laps zero k x l = l
 laps (suc n) k x l = laps n (suc k) x (lap x k l)
 
-abbrev pub standing : Table → List ℕ → List ℕ → List ℕ → Lap
-standing t store report area = record { table = t; store = store; report = report; area = area; decision = Refused; length = 0 }
+abbrev pub standing : State → Lent → Lap
+standing st lent = record { state = st; lent = lent; decision = Refused; length = 0 }
 
 -- a lap, and one segment's receipt, as the code answers them
-abbrev pub lapOf : Looped → List ℕ → List ℕ → List ℕ → Lap
-lapOf l store report area = record { table = l .table; store = store; report = report; area = area; decision = l .decision; length = l .length }
+abbrev pub lapOf : Looped → List ℕ → Lent → Lap
+lapOf l store lent = record { state = stateOf (l .table) store; lent = lent; decision = l .decision; length = l .length }
 
-pub record OfLap (want : Lap) (answer : Looped) (store′ report′ area′ : List ℕ) : Type 0 where
-  pub lapped : lapOf answer store′ report′ area′ ≡ want
+pub record OfLap (want : Lap) (answer : Looped) (store′ : List ℕ) (lent′ : Lent) : Type 0 where
+  pub lapped : lapOf answer store′ lent′ ≡ want
   pub number : answer .number ≡ 0
 
 abbrev pub received : Reception → ℕ → Looped
 received r n = record { table = r .answer .table; decision = r .answer .decision; length = n; number = 0 }
 
-pub record OfReceipt (want : Reception) (n : ℕ) (answer : Looped) (store′ report′ : List ℕ) : Type 0 where
+-- the area is only read here, so none is lent
+pub record OfReceipt (want : Reception) (n : ℕ) (answer : Looped) (store′ : List ℕ) (lent′ : Lent) : Type 0 where
   pub answered : answer ≡ received want n
   pub stored : store′ ≡ want .store
-  pub reported : report′ ≡ want .report
+  pub lent : lent′ ≡ lending (want .report) []

@@ -3,9 +3,11 @@ use rules::Decision;
 use rules::Request;
 use rules::Table;
 ghost use mathlib.Core.Path.{_≡_};
+ghost use mathlib.Core.List.{[]};
 ghost use lib.ListN.{take};
 ghost use Prim.Native.Nat.{_-_, _≤_};
 ghost use Rattle.rules.specs.Receiving.{segment};
+ghost use Rattle.rules.specs.Calls.{stateOf, lending};
 ghost use Rattle.demands.specs.Demand2.{numbered};
 ghost use Rattle.loop_laps.specs.Laps.{asked, standing, lap, laps, lapOf, OfLap, OfReceipt};
 
@@ -50,7 +52,7 @@ pub fn receive(
     store: &mut [u8],
     report: &mut [u8],
 ) -> Looped
-    ensures { λ r. ⌜ OfReceipt (segment t (now (store .entry)) (now (report .entry)) association (take n (now (area .entry)))) n r (now (store .exit)) (now (report .exit)) ⌝ }
+    ensures { λ r. ⌜ OfReceipt (segment t (now (store .entry)) (now (report .entry)) association (take n (now (area .entry)))) n r (now (store .exit)) (lending (now (report .exit)) []) ⌝ }
 {
     let r = receiver::segment(
         t,
@@ -81,7 +83,7 @@ fn one(
     store: &mut [u8],
     report: &mut [u8],
 ) -> Looped
-    ensures { λ r. ⌜ OfLap (lap (asked (c .table) (c .request) (c .association) (now (origin .entry)) (now (destination .entry)) (now (whole .entry))) k (standing t (now (store .entry)) (now (report .entry)) (now (area .entry)))) r (now (store .exit)) (now (report .exit)) (now (area .exit)) ⌝ }
+    ensures { λ r. ⌜ OfLap (lap (asked (c .table) (c .request) (c .association) (now (origin .entry)) (now (destination .entry)) (now (whole .entry))) k (standing (stateOf t (now (store .entry))) (lending (now (report .entry)) (now (area .entry))))) r (now (store .exit)) (lending (now (report .exit)) (now (area .exit))) ⌝ }
 {
     let sender = c.table;
     let q = c.request;
@@ -102,7 +104,7 @@ pub fn others(
     report: &mut [u8],
 ) -> Looped
     requires { ⌜ (1 ≤ count) × (first .number ≡ 0) ⌝ }
-    ensures { λ r. ⌜ OfLap (laps (count - 1) 1 (asked (c .table) (c .request) (c .association) (now (origin .entry)) (now (destination .entry)) (now (whole .entry))) (lapOf first (now (store .entry)) (now (report .entry)) (now (area .entry)))) r (now (store .exit)) (now (report .exit)) (now (area .exit)) ⌝ }
+    ensures { λ r. ⌜ OfLap (laps (count - 1) 1 (asked (c .table) (c .request) (c .association) (now (origin .entry)) (now (destination .entry)) (now (whole .entry))) (lapOf first (now (store .entry)) (lending (now (report .entry)) (now (area .entry))))) r (now (store .exit)) (lending (now (report .exit)) (now (area .exit))) ⌝ }
 {
     let end = count as usize;
     let mut l = first;

@@ -17,7 +17,7 @@ use Rattle.rules.specs.Delivery.{delivery}
 use Rattle.rules.specs.Receiving.{Reception, segment}
 use Rattle.rules.specs.Sending.{sendingChecks, sending}
 use Rattle.rules.specs.Sending as rule
-use Rattle.rules.specs.Calls.{State, stateOf, toArrive, Answer, step}
+use Rattle.rules.specs.Calls.{State, stateOf, toArrive, Lent, lending, Answer, step}
 use Rattle.rules.specs.Promises.{OfSending}
 use Rattle.rules.specs.declared.Table.{Table}
 use Rattle.rules.specs.declared.Request.{Request}
@@ -84,21 +84,21 @@ more stop report room = mine report room stop
 more (mine again wide rest) report room = mine again wide (more rest report room)
 more (other c range spares rest) report room = other c range spares (more rest report room)
 
-module _ (x : Asked) (store report area : List ℕ) where
+module _ (x : Asked) (store : List ℕ) (lent : Lent) where
   -- what goes out
   abbrev out : Shipment
   out = shipmentIn x
 
   abbrev start : Lap
-  start = standing (x .table) store report area
+  start = standing (stateOf (x .table) store) lent
 
   -- the delivery after a lap
   abbrev handed : Lap → List ℕ
-  handed l = delivery (l .decision) (take (l .length) (l .area)) (l .store)
+  handed l = delivery (l .decision) (take (l .length) (l .lent .area)) (l .state .store)
 
   -- after k segments
   at : ℕ → Lap
-  at zero = standing (x .table) store report area
+  at zero = start
   at (suc k) = lap x k (at k)
 
   laps-at : (n k : ℕ) → laps n k x (at k) ≡ at (k + n)
@@ -106,36 +106,33 @@ module _ (x : Asked) (store report area : List ℕ) where
   laps-at zero k = rw add-zero
   laps-at (suc n) k = laps-at n (suc k) ∙ rw (add-suc k n, suc-add k n)
 
-  area-at : (k : ℕ) → length (at k .area) ≡ length area
+  area-at : (k : ℕ) → length (at k .lent .area) ≡ length (lent .area)
   unfolding at
   area-at zero = refl
-  area-at (suc k) = sending-length (x .table) (numbered (x .request) k) (x .origin) (x .destination) (x .whole) (at k .area) ∙ area-at k
+  area-at (suc k) = sending-length (x .table) (numbered (x .request) k) (x .origin) (x .destination) (x .whole) (at k .lent .area) ∙ area-at k
 
-  report-at : (k : ℕ) → length (at k .report) ≡ length report
+  report-at : (k : ℕ) → length (at k .lent .report) ≡ length (lent .report)
   unfolding at
   report-at zero = refl
-  report-at (suc k) = report-length (at k .table) (at k .store) (at k .report) (x .association) _ ∙ report-at k
-
-  abbrev state : ℕ → State
-  state k = stateOf (at k .table) (at k .store)
+  report-at (suc k) = report-length (at k .state .table) (at k .state .store) (at k .lent .report) (x .association) _ ∙ report-at k
 
   -- segment k is sent from the table as it came, which needs no store
   abbrev from : ℕ → Sender
-  from k = record { state = stateOf (x .table) []; area = at k .area }
+  from k = record { state = stateOf (x .table) []; area = at k .lent .area }
 
-  module _ (ok : accepted (loopChecks x store report area) ≡ true) (typed : Typed (x .table)) (carrier : x .association < 2 ^ 16) where
-    both : (accepted (fitChecks (x .table) (length store) (length report) (length area)) ≡ true)
-        × (accepted (sendingChecks (x .table) (numbered (x .request) 0) (x .origin) (x .destination) (x .whole) area) ≡ true)
+  module _ (ok : accepted (loopChecks x store lent) ≡ true) (typed : Typed (x .table)) (carrier : x .association < 2 ^ 16) where
+    both : (accepted (fitChecks (x .table) (length store) (length (lent .report)) (length (lent .area))) ≡ true)
+        × (accepted (sendingChecks (x .table) (numbered (x .request) 0) (x .origin) (x .destination) (x .whole) (lent .area)) ≡ true)
     unfolding loopChecks
     both =
-        accepted-both (fitChecks (x .table) (length store) (length report) (length area))
-        (sendingChecks (x .table) (numbered (x .request) 0) (x .origin) (x .destination) (x .whole) area) ok
+        accepted-both (fitChecks (x .table) (length store) (length (lent .report)) (length (lent .area)))
+        (sendingChecks (x .table) (numbered (x .request) 0) (x .origin) (x .destination) (x .whole) (lent .area)) ok
 
     record Fit : Type 0 where
       good : sound (x .table) ≡ true
       stores : storeLeast ≤ length store
-      reports : recordLength ≤ length report
-      wide : parameterMost ≤ length area
+      reports : recordLength ≤ length (lent .report)
+      wide : parameterMost ≤ length (lent .area)
       free : isAt (lowestFree (x .table .places)) ≡ true
 
     fit : Fit
@@ -149,41 +146,41 @@ module _ (x : Asked) (store report area : List ℕ) where
           free = not-false _ (not-true _ (all .1 .1 .1 .1 .0));
         }
 
-    fits-at : (k : ℕ) → k < countIn out → length (segmentOf out k) ≤ length (at k .area)
-    fits-at k under = omega (arith, segment-most x area (both .1) k under, area-at k, fit .wide)
+    fits-at : (k : ℕ) → k < countIn out → length (segmentOf out k) ≤ length (at k .lent .area)
+    fits-at k under = omega (arith, segment-most x (lent .area) (both .1) k under, area-at k, fit .wide)
 
     can : (k : ℕ) → k < countIn out → Sendable out (from k) k
-    can k under = record { kind = refl; good = sendable-all x area (both .1) k under (at k .area) (fits-at k under) }
+    can k under = record { kind = refl; good = sendable-all x (lent .area) (both .1) k under (at k .lent .area) (fits-at k under) }
 
     -- what is handed to the receiver is the segment
-    sent-is : (k : ℕ) → k < countIn out → take (at (suc k) .length) (at (suc k) .area) ≡ segmentOf out k
+    sent-is : (k : ℕ) → k < countIn out → take (at (suc k) .length) (at (suc k) .lent .area) ≡ segmentOf out k
     unfolding step at
     sent-is k under =
         let made = demand-2 .made out (from k) k (can k under) in
         let size = ap (λ (a : Answer). a .length) (made .answer) in
         let written = ap (λ (a : Answer). a .lent .area) (made .answer) in
-        rw (size, written) (splice-back (at k .area) 0 (segmentOf out k) (omega (arith, fits-at k under)))
+        rw (size, written) (splice-back (at k .lent .area) 0 (segmentOf out k) (omega (arith, fits-at k under)))
 
-    state-is : (k : ℕ) → k < countIn out → step (state k) (arrivalOf out k (at k .report)) .state ≡ state (suc k)
+    state-is : (k : ℕ) → k < countIn out → step (at k .state) (arrivalOf out k (at k .lent .report)) .state ≡ at (suc k) .state
     unfolding step at
-    state-is k under = ap (λ (p : List ℕ). step (state k) (toArrive (x .association) p (at k .report)) .state) (sym (sent-is k under))
+    state-is k under = ap (λ (p : List ℕ). step (at k .state) (toArrive (x .association) p (at k .lent .report)) .state) (sym (sent-is k under))
 
-    trip : RoundTrip ours out (state 0) report
+    trip : RoundTrip ours out (at 0 .state) (lent .report)
     unfolding at
     trip =
-        demand-2 .back out from can (state 0) (record { sound = fit .good; typed = typed; kind = refl; store = fit .stores; carrier = carrier })
-        report (fit .reports)
+        demand-2 .back out from can (at 0 .state) (record { sound = fit .good; typed = typed; kind = refl; store = fit .stores; carrier = carrier })
+        (lent .report) (fit .reports)
 
-    meanwhile : (j : ℕ) → j < countIn out → Meanwhile ours out (step (state 0) (arrivalOf out 0 report) .state) 1 (state (suc j)) (suc j)
+    meanwhile : (j : ℕ) → j < countIn out → Meanwhile ours out (step (at 0 .state) (arrivalOf out 0 (lent .report)) .state) 1 (at (suc j) .state) (suc j)
     unfolding at
     meanwhile zero under = rw (sym (state-is 0 under)) stop
     meanwhile (suc j) under =
-        rw (sym (state-is (suc j) under)) (more (meanwhile j (omega arith)) (at (suc j) .report) (rw (report-at (suc j)) (fit .reports)))
+        rw (sym (state-is (suc j) under)) (more (meanwhile j (omega arith)) (at (suc j) .lent .report) (rw (report-at (suc j)) (fit .reports)))
 
-    last-hands : (j : ℕ) → suc j ≡ countIn out → Returns out (seenBy ours (state j) (arrivalOf out j (at j .report))) → handed (at (countIn out)) ≡ x .whole
+    last-hands : (j : ℕ) → suc j ≡ countIn out → Returns out (seenBy ours (at j .state) (arrivalOf out j (at j .lent .report))) → handed (at (countIn out)) ≡ x .whole
     unfolding step at
     last-hands j e r =
-        let got : List ℕ → Reception = λ p. segment (at j .table) (at j .store) (at j .report) (x .association) p in
+        let got : List ℕ → Reception = λ p. segment (at j .state .table) (at j .state .store) (at j .lent .report) (x .association) p in
         subst (λ (n : ℕ). handed (at n) ≡ x .whole) e
         (ap (λ (p : List ℕ). delivery (got p .answer .decision) p (got p .store)) (sent-is j (omega arith)) ∙ r .handed)
 
@@ -191,7 +188,7 @@ module _ (x : Asked) (store report area : List ℕ) where
     two-least e =
         count-two (header out) (x .request) (length (x .whole)) e (later-carries _ _ _ _ _ _ (both .1) e) (first-leaves _ _ _ _ _ _ (both .1) e)
 
-    free-first : CanTake out (state 0)
+    free-first : CanTake out (at 0 .state)
     unfolding at
     free-first = rw (fit .free) (or-true (isAt (placeOf (keyIn out) (x .table .places))))
 
@@ -203,116 +200,115 @@ module _ (x : Asked) (store report area : List ℕ) where
         let j : ℕ = countIn out - 2 in
         let last : suc (suc j) ≡ countIn out = omega arith in
         last-hands (suc j) last
-        (trip .later e free-first (suc j) (omega arith) (state (suc j)) (meanwhile j (omega arith)) (at (suc j) .report) (rw (report-at (suc j)) (fit .reports)) .1 last)
+        (trip .later e free-first (suc j) (omega arith) (at (suc j) .state) (meanwhile j (omega arith)) (at (suc j) .lent .report) (rw (report-at (suc j)) (fit .reports)) .1 last)
 
     pub back : handed (laps (countIn out) 0 x start) ≡ x .whole
     unfolding at
     back = ap handed (laps-at (countIn out) 0) ∙ rw zero-add (back-by (segmentedIn out) refl)
 
   abbrev fits : List Check
-  fits = fitChecks (x .table) (length store) (length report) (length area)
+  fits = fitChecks (x .table) (length store) (length (lent .report)) (length (lent .area))
 
   abbrev sends : List Check
-  sends = sendingChecks (x .table) (numbered (x .request) 0) (x .origin) (x .destination) (x .whole) area
+  sends = sendingChecks (x .table) (numbered (x .request) 0) (x .origin) (x .destination) (x .whole) (lent .area)
 
   abbrev sent : rule.Sending
-  sent = sending (x .table) (numbered (x .request) 0) (x .origin) (x .destination) (x .whole) area
+  sent = sending (x .table) (numbered (x .request) 0) (x .origin) (x .destination) (x .whole) (lent .area)
 
   abbrev unmoved : ℕ → Looping
   unmoved n = record { number = n; lap = start }
 
   -- refused by a condition on table and areas, or by the sender; or carried out
-  pub looping-unfit : (n : ℕ) → n ≡ first fits → (n ≡ 0 → ⊥) → looping x store report area ≡ unmoved n
+  pub looping-unfit : (n : ℕ) → n ≡ first fits → (n ≡ 0 → ⊥) → looping x store lent ≡ unmoved n
   unfolding looping loopChecks
   looping-unfit n e nonzero = judged-append fits sends unmoved _ ∙ judged-first fits unmoved _ (λ z. nonzero (e ∙ z)) ∙ rw (sym e)
 
-  looping-fit : first fits ≡ 0 → looping x store report area ≡ judged sends unmoved (record { number = 0; lap = laps (countIn out) 0 x start })
+  looping-fit : first fits ≡ 0 → looping x store lent ≡ judged sends unmoved (record { number = 0; lap = laps (countIn out) 0 x start })
   unfolding looping loopChecks
-  looping-fit e = judged-append fits sends unmoved _ ∙ judged-none fits unmoved _ (fit-sharp (x .table) (length store) (length report) (length area)) e
+  looping-fit e = judged-append fits sends unmoved _ ∙ judged-none fits unmoved _ (fit-sharp (x .table) (length store) (length (lent .report)) (length (lent .area))) e
 
-  unsent : (n : ℕ) → n ≡ sent .answer .refusal → (n ≡ 0 → ⊥) → (sent .area ≡ area) × (n ≡ first sends)
+  unsent : (n : ℕ) → n ≡ sent .answer .refusal → (n ≡ 0 → ⊥) → (sent .area ≡ lent .area) × (n ≡ first sends)
   unfolding sending
   unsent n e nonzero =
-      judged-by (λ (o : rule.Sending). n ≡ o .answer .refusal → (o .area ≡ area) × (n ≡ first sends)) sends
-      (λ n. record { answer = record { refusal = n; count = 0; length = 0 }; area = area }) _ (λ ok z. absurd (nonzero z)) (λ no z. (refl, z)) e
+      judged-by (λ (o : rule.Sending). n ≡ o .answer .refusal → (o .area ≡ lent .area) × (n ≡ first sends)) sends
+      (λ n. record { answer = record { refusal = n; count = 0; length = 0 }; area = lent .area }) _ (λ ok z. absurd (nonzero z)) (λ no z. (refl, z)) e
 
-  pub looping-unsent : (n : ℕ) → first fits ≡ 0 → n ≡ sent .answer .refusal → (n ≡ 0 → ⊥) → looping x store report area ≡ unmoved n
+  pub looping-unsent : (n : ℕ) → first fits ≡ 0 → n ≡ sent .answer .refusal → (n ≡ 0 → ⊥) → looping x store lent ≡ unmoved n
   looping-unsent n e z nonzero =
       let u = unsent n z nonzero in
       looping-fit e ∙ judged-first sends unmoved _ (λ y. nonzero (u .1 ∙ y)) ∙ rw (sym (u .1))
 
-  pub area-unsent : (n : ℕ) → n ≡ sent .answer .refusal → (n ≡ 0 → ⊥) → sent .area ≡ area
+  pub area-unsent : (n : ℕ) → n ≡ sent .answer .refusal → (n ≡ 0 → ⊥) → sent .area ≡ lent .area
   area-unsent n z nonzero = unsent n z nonzero .0
 
   sends-accepted : sent .answer .refusal ≡ 0 → accepted sends ≡ true
   unfolding sending
   sends-accepted =
       judged-by (λ (o : rule.Sending). o .answer .refusal ≡ 0 → accepted sends ≡ true) sends
-      (λ n. record { answer = record { refusal = n; count = 0; length = 0 }; area = area }) _ (λ ok z. ok)
-      (λ no z. first-accepted sends (sending-sharp (x .table) (numbered (x .request) 0) (x .origin) (x .destination) (x .whole) area) z)
+      (λ n. record { answer = record { refusal = n; count = 0; length = 0 }; area = lent .area }) _ (λ ok z. ok)
+      (λ no z. first-accepted sends (sending-sharp (x .table) (numbered (x .request) 0) (x .origin) (x .destination) (x .whole) (lent .area)) z)
 
   pub sent-count : sent .answer .refusal ≡ 0 → sent .answer .count ≡ countIn out
   unfolding sending
   sent-count z = rw (sends-accepted z)
 
   pub count-some : sent .answer .refusal ≡ 0 → 1 ≤ countIn out
-  count-some z = let n = cuttable (x .table) (numbered (x .request) 0) (x .origin) (x .destination) (x .whole) area (sends-accepted z) .number in omega arith
+  count-some z = let n = cuttable (x .table) (numbered (x .request) 0) (x .origin) (x .destination) (x .whole) (lent .area) (sends-accepted z) .number in omega arith
 
-  pub looping-done : first fits ≡ 0 → sent .answer .refusal ≡ 0 → looping x store report area ≡ record { number = 0; lap = laps (countIn out) 0 x start }
+  pub looping-done : first fits ≡ 0 → sent .answer .refusal ≡ 0 → looping x store lent ≡ record { number = 0; lap = laps (countIn out) 0 x start }
   looping-done e z =
-      looping-fit e ∙ judged-none sends unmoved _ (sending-sharp (x .table) (numbered (x .request) 0) (x .origin) (x .destination) (x .whole) area)
+      looping-fit e ∙ judged-none sends unmoved _ (sending-sharp (x .table) (numbered (x .request) 0) (x .origin) (x .destination) (x .whole) (lent .area))
       (accepted-first sends (sends-accepted z))
 
   -- the contract, of an answer that is the rule's
   module _ (typed : Typed (x .table)) (carrier : x .association < 2 ^ 16) where
-    loop-sharp : Sharp (loopChecks x store report area)
+    loop-sharp : Sharp (loopChecks x store lent)
     unfolding loopChecks
     loop-sharp =
-        sharp-both fits sends (fit-sharp (x .table) (length store) (length report) (length area))
-        (sending-sharp (x .table) (numbered (x .request) 0) (x .origin) (x .destination) (x .whole) area)
+        sharp-both fits sends (fit-sharp (x .table) (length store) (length (lent .report)) (length (lent .area)))
+        (sending-sharp (x .table) (numbered (x .request) 0) (x .origin) (x .destination) (x .whole) (lent .area))
 
-    number-first : looping x store report area .number ≡ first (loopChecks x store report area)
+    number-first : looping x store lent .number ≡ first (loopChecks x store lent)
     unfolding looping
     number-first =
-        judged-by (λ (o : Looping). o .number ≡ first (loopChecks x store report area)) (loopChecks x store report area) unmoved _
-        (λ ok. sym (accepted-first (loopChecks x store report area) ok)) (λ no. refl)
+        judged-by (λ (o : Looping). o .number ≡ first (loopChecks x store lent)) (loopChecks x store lent) unmoved _
+        (λ ok. sym (accepted-first (loopChecks x store lent) ok)) (λ no. refl)
 
-    done : accepted (loopChecks x store report area) ≡ true → looping x store report area .lap ≡ laps (countIn out) 0 x start
+    done : accepted (loopChecks x store lent) ≡ true → looping x store lent .lap ≡ laps (countIn out) 0 x start
     unfolding looping
     done ok = rw ok
 
-    pub kept : (answer : Looped) (store′ report′ area′ : List ℕ) → lapOf answer store′ report′ area′ ≡ looping x store report area .lap
-        → answer .number ≡ looping x store report area .number → OfLoopback x store report area answer store′ report′ area′
-    kept answer store′ report′ area′ l n =
-        let zero-only : answer .number ≡ 0 → accepted (loopChecks x store report area) ≡ true
-        = λ z. first-accepted (loopChecks x store report area) loop-sharp (sym number-first ∙ sym n ∙ z) in
+    pub kept : (answer : Looped) (store′ : List ℕ) (lent′ : Lent) → lapOf answer store′ lent′ ≡ looping x store lent .lap
+        → answer .number ≡ looping x store lent .number → OfLoopback x store lent answer store′ lent′
+    kept answer store′ lent′ l n =
+        let zero-only : answer .number ≡ 0 → accepted (loopChecks x store lent) ≡ true
+        = λ z. first-accepted (loopChecks x store lent) loop-sharp (sym number-first ∙ sym n ∙ z) in
         record {
-          answered = λ i. record { table = l i .table; decision = l i .decision; length = l i .length; number = n i };
-          stored = λ i. l i .store;
-          reported = λ i. l i .report;
-          written = λ i. l i .area;
+          answered = λ i. record { table = l i .state .table; decision = l i .decision; length = l i .length; number = n i };
+          stored = λ i. l i .state .store;
+          lent = λ i. l i .lent;
           only = zero-only;
-          always = λ ok. n ∙ number-first ∙ accepted-first (loopChecks x store report area) ok;
+          always = λ ok. n ∙ number-first ∙ accepted-first (loopChecks x store lent) ok;
           returned = λ z. ap handed l ∙ ap handed (done (zero-only z)) ∙ back (zero-only z) typed carrier;
         }
 
     -- nothing was done
-    pub kept-unmoved : (n : ℕ) (answer : Looped) (area′ : List ℕ) → answer ≡ record { table = x .table; decision = Refused; length = 0; number = n }
-        → looping x store report area ≡ unmoved n → area′ ≡ area → OfLoopback x store report area answer store report area′
-    kept-unmoved n answer area′ a o e =
-        kept answer store report area′ ((λ i. lapOf (a i) store report (e i)) ∙ sym (ap (λ (o : Looping). o .lap) o)) ((λ i. a i .number) ∙ sym (ap (λ (o : Looping). o .number) o))
+    pub kept-unmoved : (n : ℕ) (answer : Looped) (lent′ : Lent) → answer ≡ record { table = x .table; decision = Refused; length = 0; number = n }
+        → looping x store lent ≡ unmoved n → lent′ ≡ lent → OfLoopback x store lent answer store lent′
+    kept-unmoved n answer lent′ a o e =
+        kept answer store lent′ ((λ i. lapOf (a i) store (e i)) ∙ sym (ap (λ (o : Looping). o .lap) o)) ((λ i. a i .number) ∙ sym (ap (λ (o : Looping). o .number) o))
 
   -- what the sender was asked for, and answered
   module _ (q : Request) (s : Sent) (area′ : List ℕ) (asked-for : q ≡ numbered (x .request) 0)
-      (k : OfSending (x .table) q (x .origin) (x .destination) (x .whole) area s area′) where
+      (k : OfSending (x .table) q (x .origin) (x .destination) (x .whole) (lent .area) s area′) where
     pub refusal-is : s .refusal ≡ sent .answer .refusal
-    refusal-is = (λ i. k .answered i .refusal) ∙ (λ i. sending (x .table) (asked-for i) (x .origin) (x .destination) (x .whole) area .answer .refusal)
+    refusal-is = (λ i. k .answered i .refusal) ∙ (λ i. sending (x .table) (asked-for i) (x .origin) (x .destination) (x .whole) (lent .area) .answer .refusal)
 
     count-is : s .count ≡ sent .answer .count
-    count-is = (λ i. k .answered i .count) ∙ (λ i. sending (x .table) (asked-for i) (x .origin) (x .destination) (x .whole) area .answer .count)
+    count-is = (λ i. k .answered i .count) ∙ (λ i. sending (x .table) (asked-for i) (x .origin) (x .destination) (x .whole) (lent .area) .answer .count)
 
     pub area-is : area′ ≡ sent .area
-    area-is = k .written ∙ (λ i. sending (x .table) (asked-for i) (x .origin) (x .destination) (x .whole) area .area)
+    area-is = k .written ∙ (λ i. sending (x .table) (asked-for i) (x .origin) (x .destination) (x .whole) (lent .area) .area)
 
     pub some-sent : s .refusal ≡ 0 → 1 ≤ s .count
     some-sent z =
@@ -323,17 +319,17 @@ module _ (x : Asked) (store report area : List ℕ) where
 
     -- all segments
     pub kept-done : (typed : Typed (x .table)) (carrier : x .association < 2 ^ 16) → first fits ≡ 0 → s .refusal ≡ 0
-        → (one : Looped) (store1 report1 : List ℕ) → OfReceipt (segment (x .table) store report (x .association) (take (s .length) area′)) (s .length) one store1 report1
-        → (answer : Looped) (store2 report2 area2 : List ℕ) → OfLap (laps (s .count - 1) 1 x (lapOf one store1 report1 area′)) answer store2 report2 area2
-        → OfLoopback x store report area answer store2 report2 area2
+        → (one : Looped) (store1 : List ℕ) (lent1 : Lent) → OfReceipt (segment (x .table) store (lent .report) (x .association) (take (s .length) area′)) (s .length) one store1 lent1
+        → (answer : Looped) (store2 : List ℕ) (lent2 : Lent) → OfLap (laps (s .count - 1) 1 x (lapOf one store1 (lending (lent1 .report) area′))) answer store2 lent2
+        → OfLoopback x store lent answer store2 lent2
     unfolding laps
-    kept-done typed carrier fit z one store1 report1 got answer store2 report2 area2 all =
+    kept-done typed carrier fit z one store1 lent1 got answer store2 lent2 all =
         let r = sym refusal-is ∙ z in
         let n = count-some r in
         let e : countIn out ≡ suc (s .count - 1) = let c = count-is ∙ sent-count r in omega arith in
         let o = looping-done fit r in
-        let first-lap = one-lap x 0 (x .table) store report area area′ q s one store1 report1 asked-for k got .lapped in
+        let first-lap = one-lap x 0 (stateOf (x .table) store) lent area′ q s one store1 lent1 asked-for k got .lapped in
         let after : laps (suc (s .count - 1)) 0 x start ≡ laps (s .count - 1) 1 x (lap x 0 start) = refl in
-        kept typed carrier answer store2 report2 area2
+        kept typed carrier answer store2 lent2
         (all .lapped ∙ ap (laps (s .count - 1) 1 x) first-lap ∙ sym after ∙ ap (λ (n : ℕ). laps n 0 x start) (sym e) ∙ sym (ap (λ (o : Looping). o .lap) o))
         (all .number ∙ sym (ap (λ (o : Looping). o .number) o))

@@ -13,6 +13,7 @@ use Rattle.rules.specs.Places.{lowestFree, isAt}
 use Rattle.rules.specs.Soundness.{sound}
 use Rattle.rules.specs.Delivery.{delivery}
 use Rattle.rules.specs.Sending.{sendingChecks}
+use Rattle.rules.specs.Calls.{stateOf, Lent}
 use Rattle.rules.specs.declared.Table.{Table}
 use Rattle.demands.specs.Demand2.{Shipment, numbered, countIn}
 use Rattle.loop_laps.specs.Laps.{Asked, Lap, laps, standing}
@@ -39,33 +40,32 @@ fitChecks t store report area =
     20 when ltb area parameterMost ∷
     10 when not (isAt (lowestFree (t .places))) ∷ []
 
-unfoldable pub loopChecks : Asked → List ℕ → List ℕ → List ℕ → List Check
-loopChecks x store report area =
-    fitChecks (x .table) (length store) (length report) (length area)
-    ++ sendingChecks (x .table) (numbered (x .request) 0) (x .origin) (x .destination) (x .whole) area
+unfoldable pub loopChecks : Asked → List ℕ → Lent → List Check
+loopChecks x store lent =
+    fitChecks (x .table) (length store) (length (lent .report)) (length (lent .area))
+    ++ sendingChecks (x .table) (numbered (x .request) 0) (x .origin) (x .destination) (x .whole) (lent .area)
 
 pub record Looping : Type 0 where
   pub number : ℕ
   pub lap : Lap
 
 -- refused by the first condition that fails, with nothing changed; or all segments
-unfoldable pub looping : Asked → List ℕ → List ℕ → List ℕ → Looping
-looping x store report area =
-    judged (loopChecks x store report area)
-    (λ n. record { number = n; lap = standing (x .table) store report area })
-    (record { number = 0; lap = laps (countIn (shipmentIn x)) 0 x (standing (x .table) store report area) })
+unfoldable pub looping : Asked → List ℕ → Lent → Looping
+looping x store lent =
+    judged (loopChecks x store lent)
+    (λ n. record { number = n; lap = standing (stateOf (x .table) store) lent })
+    (record { number = 0; lap = laps (countIn (shipmentIn x)) 0 x (standing (stateOf (x .table) store) lent) })
 
 -- the answer by value
 abbrev pub loopedOf : Looping → Looped
-loopedOf o = record { table = o .lap .table; decision = o .lap .decision; length = o .lap .length; number = o .number }
+loopedOf o = record { table = o .lap .state .table; decision = o .lap .decision; length = o .lap .length; number = o .number }
 
-pub record OfLoopback (x : Asked) (store report area : List ℕ) (answer : Looped) (store′ report′ area′ : List ℕ) : Type 0 where
-  pub answered : answer ≡ loopedOf (looping x store report area)
-  pub stored : store′ ≡ looping x store report area .lap .store
-  pub reported : report′ ≡ looping x store report area .lap .report
-  pub written : area′ ≡ looping x store report area .lap .area
+pub record OfLoopback (x : Asked) (store : List ℕ) (areas : Lent) (answer : Looped) (store′ : List ℕ) (areas′ : Lent) : Type 0 where
+  pub answered : answer ≡ loopedOf (looping x store areas)
+  pub stored : store′ ≡ looping x store areas .lap .state .store
+  pub lent : areas′ ≡ looping x store areas .lap .lent
   -- its number is 0 exactly where no condition fails
-  pub only : answer .number ≡ 0 → accepted (loopChecks x store report area) ≡ true
-  pub always : accepted (loopChecks x store report area) ≡ true → answer .number ≡ 0
+  pub only : answer .number ≡ 0 → accepted (loopChecks x store areas) ≡ true
+  pub always : accepted (loopChecks x store areas) ≡ true → answer .number ≡ 0
   -- and then the delivery asked for with the answer, the last segment and the store is the data
-  pub returned : answer .number ≡ 0 → delivery (answer .decision) (take (answer .length) area′) store′ ≡ x .whole
+  pub returned : answer .number ≡ 0 → delivery (answer .decision) (take (answer .length) (areas′ .area)) store′ ≡ x .whole

@@ -8,6 +8,7 @@ use rules::Table;
 ghost use mathlib.Core.Path.{_≡_};
 ghost use Rattle.rules.specs.Places.{isAt, lowestFree};
 ghost use Rattle.rules.specs.Refusals.{first};
+ghost use Rattle.rules.specs.Calls.{lending};
 ghost use Rattle.loop_laps.specs.Laps.{asked};
 ghost use Rattle.loopback.specs.Loopback.{fitChecks, OfLoopback};
 
@@ -68,7 +69,7 @@ pub fn loopback(
     store: &mut [u8],
     report: &mut [u8],
 ) -> Looped
-    ensures { λ r. ⌜ OfLoopback (asked t q association (now (origin .entry)) (now (destination .entry)) (now (whole .entry))) (now (store .entry)) (now (report .entry)) (now (area .entry)) r (now (store .exit)) (now (report .exit)) (now (area .exit)) ⌝ }
+    ensures { λ r. ⌜ OfLoopback (asked t q association (now (origin .entry)) (now (destination .entry)) (now (whole .entry))) (now (store .entry)) (lending (now (report .entry)) (now (area .entry))) r (now (store .exit)) (lending (now (report .exit)) (now (area .exit))) ⌝ }
 {
     let number = unfit(t, store.len(), report.len(), area.len());
     if number != 0 {

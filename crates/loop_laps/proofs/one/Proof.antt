@@ -1,4 +1,5 @@
 use denote.Ref.{now}
+use Rattle.rules.specs.Calls.{stateOf, lending}
 use Rattle.loop_laps.specs.Laps.{asked}
 use Rattle.loop_laps.proofs.Laps.{one-lap}
 use borrow.Author.Needs.{needs}
@@ -29,7 +30,7 @@ returns c =
     let s = g .before .before .before .before .before .before in
     let f = s .before .before in
     let a = f .before .before .before .before .before .before .before .before .before .args in
-    one-lap (asked (a .c .table) (a .c .request) (a .c .association) (now (a .origin)) (now (a .destination)) (now (a .whole))) (a .k) (a .t) (now (a .store)) (now (a .report)) _ _ _ _ _ _ _
+    one-lap (asked (a .c .table) (a .c .request) (a .c .association) (now (a .origin)) (now (a .destination)) (now (a .whole))) (a .k) (stateOf (a .t) (now (a .store))) (lending (now (a .report)) (now (a .area))) _ _ _ _ _ _
     (f .for-segment .ensures) (s .sending .ensures) (g .receive .ensures)
 
 pub one-spec : {M : Type 1} → statement M

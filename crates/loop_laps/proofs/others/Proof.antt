@@ -4,6 +4,7 @@ use mathlib.Core.Path.{_≡_, refl, _∙_}
 use lib.ListN.{length}
 use native.Mathlib.Omega.{arith}
 use borrow.Author.Needs.{needs}
+use Rattle.rules.specs.Calls.{lending}
 use Rattle.loop_laps.specs.Laps.{Asked, asked, laps, lapOf}
 use Rattle.loop_laps.proofs.Laps.{laps-next, laps-end}
 use Rattle.loop_laps.proofs.others.Statement.{statement}
@@ -12,7 +13,7 @@ use Rattle.loop_laps.proofs.others.Tie as tie
 abbrev Inv-loop : tie.InvT-loop
 Inv-loop c count origin destination whole area₀ store₀ report₀ end l₀ k₀ area store report l k =
     let x : Asked = asked (c .table) (c .request) (c .association) origin destination whole in
-    (laps (count - 1) 1 x (lapOf l₀ store₀ report₀ area₀) ≡ laps (end - k) k x (lapOf l store report area))
+    (laps (count - 1) 1 x (lapOf l₀ store₀ (lending report₀ area₀)) ≡ laps (end - k) k x (lapOf l store (lending report area)))
     × ((l .number ≡ 0) × ((k ≤ end) × ((length area ≡ length area₀) × ((length store ≡ length store₀) × (length report ≡ length report₀)))))
 
 abbrev μ-loop : tie.MeasureT-loop

@@ -1,6 +1,7 @@
-use mathlib.Core.Path.{refl, sym, _∙_}
+use mathlib.Core.Path.{refl, sym, ap, _∙_}
 use denote.Ref.{now}
 use native.Mathlib.Omega.{arith}
+use Rattle.rules.specs.Calls.{lending}
 use Rattle.loop_laps.specs.Laps.{asked}
 use Rattle.loopback.proofs.Owned.{owned}
 use Rattle.loopback.proofs.Back.{looping-unfit, looping-unsent, area-unsent, refusal-is, area-is, some-sent, kept-unmoved, kept-done}
@@ -19,8 +20,8 @@ returns c =
     let s = c .before .before .before .before .before .before .before .before .before in
     let a = s .args in
     let x = asked (a .t) (a .q) (a .association) (now (a .origin)) (now (a .destination)) (now (a .whole)) in
-    kept-unmoved x (now (a .store)) (now (a .report)) (now (a .area)) (owned (a .t) (s .good .0)) (omega arith) _ _ _ (c .refused .ensures)
-    (looping-unfit x (now (a .store)) (now (a .report)) (now (a .area)) _ (c .before .before .unfit .ensures) (c .before .if1 .taken)) refl
+    kept-unmoved x (now (a .store)) (lending (now (a .report)) (now (a .area))) (owned (a .t) (s .good .0)) (omega arith) _ _ _ (c .refused .ensures)
+    (looping-unfit x (now (a .store)) (lending (now (a .report)) (now (a .area))) _ (c .before .before .unfit .ensures) (c .before .if1 .taken)) refl
 
 for-segment-requires : tie.Need-for-segment-requires
 for-segment-requires c κs = search needs
@@ -41,11 +42,11 @@ returns-2 c =
     let s = u .before .before .before .before .before .before .before in
     let a = s .args in
     let x = asked (a .t) (a .q) (a .association) (now (a .origin)) (now (a .destination)) (now (a .whole)) in
-    let e = refusal-is x (now (a .store)) (now (a .report)) (now (a .area)) _ _ _ (sent .before .before .for-segment .ensures) (sent .sending .ensures) in
-    kept-unmoved x (now (a .store)) (now (a .report)) (now (a .area)) (owned (a .t) (s .good .0)) (omega arith) _ _ _ (c .refused2 .ensures)
-    (looping-unsent x (now (a .store)) (now (a .report)) (now (a .area)) _ (sym (u .unfit .ensures) ∙ sent .before .before .before .if1 .left) e (c .before .if2 .taken))
-    (area-is x (now (a .store)) (now (a .report)) (now (a .area)) _ _ _ (sent .before .before .for-segment .ensures) (sent .sending .ensures)
-    ∙ area-unsent x (now (a .store)) (now (a .report)) (now (a .area)) _ e (c .before .if2 .taken))
+    let e = refusal-is x (now (a .store)) (lending (now (a .report)) (now (a .area))) _ _ _ (sent .before .before .for-segment .ensures) (sent .sending .ensures) in
+    kept-unmoved x (now (a .store)) (lending (now (a .report)) (now (a .area))) (owned (a .t) (s .good .0)) (omega arith) _ _ _ (c .refused2 .ensures)
+    (looping-unsent x (now (a .store)) (lending (now (a .report)) (now (a .area))) _ (sym (u .unfit .ensures) ∙ sent .before .before .before .if1 .left) e (c .before .if2 .taken))
+    (ap (lending (now (a .report))) (area-is x (now (a .store)) (lending (now (a .report)) (now (a .area))) _ _ _ (sent .before .before .for-segment .ensures) (sent .sending .ensures)
+    ∙ area-unsent x (now (a .store)) (lending (now (a .report)) (now (a .area))) _ e (c .before .if2 .taken)))
 
 receive-requires : tie.Need-receive-requires
 receive-requires c κs = search needs
@@ -57,7 +58,7 @@ others-requires c κs =
     let sent = e .before .before .before .before in
     let a = sent .before .before .before .before .before .before .before .before .before .before .before .args in
     let x = asked (a .t) (a .q) (a .association) (now (a .origin)) (now (a .destination)) (now (a .whole)) in (
-      some-sent x (now (a .store)) (now (a .report)) (now (a .area)) _ _ _ (sent .before .before .for-segment .ensures) (sent .sending .ensures) (e .if2 .left),
+      some-sent x (now (a .store)) (lending (now (a .report)) (now (a .area))) _ _ _ (sent .before .before .for-segment .ensures) (sent .sending .ensures) (e .if2 .left),
       (λ i. r .receive .ensures .answered i .number),
     )
 
@@ -83,8 +84,8 @@ returns-3 c =
     let s = u .before .before .before .before .before .before .before in
     let a = s .args in
     let x = asked (a .t) (a .q) (a .association) (now (a .origin)) (now (a .destination)) (now (a .whole)) in
-    kept-done x (now (a .store)) (now (a .report)) (now (a .area)) _ _ _ (sent .before .before .for-segment .ensures) (sent .sending .ensures)
-    (owned (a .t) (s .good .0)) (omega arith) (sym (u .unfit .ensures) ∙ sent .before .before .before .if1 .left) (e .if2 .left) _ _ _ (r .receive .ensures) _ _ _ _ (o .others .ensures)
+    kept-done x (now (a .store)) (lending (now (a .report)) (now (a .area))) _ _ _ (sent .before .before .for-segment .ensures) (sent .sending .ensures)
+    (owned (a .t) (s .good .0)) (omega arith) (sym (u .unfit .ensures) ∙ sent .before .before .before .if1 .left) (e .if2 .left) _ _ _ (r .receive .ensures) _ _ _ (o .others .ensures)
 
 pub loopback-spec : {M : Type 1} → statement M
 loopback-spec =
