@@ -1,13 +1,14 @@
 -- A line judged, by the one place that a segment is about: its key's, or where a new sequence goes.
 use Prim.Native.Nat.{ℕ, _≤_}
 use mathlib.Core.Path.{_≡_}
-use mathlib.Core.Bool.{Bool, true, false}
+use mathlib.Core.Bool.{Bool, true}
 use mathlib.Core.List.{List}
 use lib.ListN.{getD}
 use Rattle.rules.specs.General.{if_then_else_}
 use Rattle.rules.specs.Numbers.{dataMost}
 use Rattle.rules.specs.Places.{freePlace, noPlace}
 use Rattle.rules.specs.Receiving.{openPlace, effectOf, Reception, receptionOf}
+use Rattle.receive_perform.specs.Performing.{quietly}
 use Rattle.receive_perform.specs.declared.Verdict.{Verdict}
 use Rattle.receive_carry.specs.declared.Judged.{Judged}
 use Rattle.rules.specs.declared.Place.{Place}
@@ -35,21 +36,7 @@ carriedAt line t store report j octets =
 
 -- a verdict that does not refuse, by where the information is; it saves nothing and has no record
 abbrev pub takenTo : ℕ → Place → Decision → Verdict
-takenTo information put decision =
-    record {
-      put = put;
-      decision = decision;
-      information = information;
-      from = 0;
-      octets = 0;
-      saves = false;
-      refusal = 0;
-      records = 0;
-      kind = 0;
-      instruction = 0;
-      cause = 0;
-      segments = 0;
-    }
+takenTo information put decision = quietly put decision 0 information
 
 -- .. one that saves, and one that has a record
 abbrev pub savingFrom : ℕ → Verdict → Verdict

@@ -93,20 +93,7 @@ fn instruction_of(j: Judged) -> u8
 fn taken(j: Judged, put: Place, decision: Decision) -> Verdict
     ensures { λ r. ⌜ r ≡ takenTo (j .fields .information) put decision ⌝ }
 {
-    Verdict {
-        put,
-        decision,
-        information: j.fields.information,
-        from: 0,
-        octets: 0,
-        saves: false,
-        refusal: 0,
-        records: 0,
-        kind: 0,
-        instruction: 0,
-        cause: 0,
-        segments: 0,
-    }
+    receive_perform::quiet(put, decision, 0, j.fields.information)
 }
 
 // .. and one that saves the segment's information, in its place's stretch from an index on.

@@ -15,26 +15,30 @@ use Rattle.rules.specs.declared.Key.{Key}
 use Rattle.rules.specs.declared.Place.{Place}
 use Rattle.rules.specs.declared.Table.{Table}
 use Rattle.rules.specs.declared.Record.{Record}
+use Rattle.rules.specs.declared.Decision.{Decision}
 use Rattle.rules.specs.declared.Decision.the-variants.{Refused}
 use Rattle.rules.specs.declared.Received.{Received}
 
--- a refusal: the place stays as it is, and nothing is written
-abbrev pub refusedWith : ℕ → Place → Verdict
-refusedWith n held =
+-- a verdict that writes nothing, and of these a refusal: the place stays as it is
+abbrev pub quietly : Place → Decision → ℕ → ℕ → Verdict
+quietly put decision refusal information =
     record {
-      put = held;
-      decision = Refused;
-      information = 0;
+      put = put;
+      decision = decision;
+      information = information;
       from = 0;
       octets = 0;
       saves = false;
-      refusal = n;
+      refusal = refusal;
       records = 0;
       kind = 0;
       instruction = 0;
       cause = 0;
       segments = 0;
     }
+
+abbrev pub refusedWith : ℕ → Place → Verdict
+refusedWith n held = quietly held Refused n 0
 
 -- the records of a verdict on a segment of a key: one or none
 abbrev pub recordsIn : Verdict → Key → List Record

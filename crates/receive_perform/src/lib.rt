@@ -8,7 +8,7 @@ ghost use Prim.Native.Nat.{_+_, _≤_, _<_};
 ghost use lib.ListN.{length};
 ghost use Rattle.rules.specs.Numbers.{stretchLength, storeLeast, placeCount};
 ghost use Rattle.rules.specs.Receiving.{saveAt};
-ghost use Rattle.receive_perform.specs.Performing.{savedBy, toldBy, Fits};
+ghost use Rattle.receive_perform.specs.Performing.{quietly, savedBy, toldBy, Fits};
 
 // What becomes of a segment: what its place holds afterwards, the answer but for the table, and what is to be written.
 // Where it saves, the parameter's octets from information on go to the place's stretch of the store, from its index from on.
@@ -26,6 +26,26 @@ pub struct Verdict {
     pub instruction: u8,
     pub cause: u8,
     pub segments: u8,
+}
+
+// A verdict that writes nothing: what its place is to hold, its decision, its refusal (0 is none), and where the information is.
+pub fn quiet(put: Place, decision: Decision, refusal: u8, information: usize) -> Verdict
+    ensures { λ r. ⌜ r ≡ quietly put decision refusal information ⌝ }
+{
+    Verdict {
+        put,
+        decision,
+        information,
+        from: 0,
+        octets: 0,
+        saves: false,
+        refusal,
+        records: 0,
+        kind: 0,
+        instruction: 0,
+        cause: 0,
+        segments: 0,
+    }
 }
 
 // Writes octets to a place's stretch of the store, from its index at on. What is lent is as long as the octets.

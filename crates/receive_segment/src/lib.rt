@@ -56,20 +56,7 @@ fn key_of(association: u16, s: &[u8], f: Fields) -> Key
 fn refused(number: u8, held: Place) -> Verdict
     ensures { λ r. ⌜ r ≡ refusedWith number held ⌝ }
 {
-    Verdict {
-        put: held,
-        decision: Decision::Refused,
-        information: 0,
-        from: 0,
-        octets: 0,
-        saves: false,
-        refusal: number,
-        records: 0,
-        kind: 0,
-        instruction: 0,
-        cause: 0,
-        segments: 0,
-    }
+    receive_perform::quiet(held, Decision::Refused, number, 0)
 }
 
 // A parameter that touches no place.
