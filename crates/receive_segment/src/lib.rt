@@ -112,7 +112,7 @@ fn seek(t: Table, association: u16, s: &[u8]) -> Sought
     }
 }
 
-// The verdict on a segment that has been read. The checks of where its line takes it are the last ones: one that looks at the verdict goes to the end.
+// The verdict on a segment that has been read. The checks of where its line takes it are the last ones.
 fn arrive(t: Table, s: &[u8], f: Fields, q: Sought, held: Place) -> Verdict
     requires { ⌜ (sound t ≡ true) × ((length (now s) ≤ parameterMost) × Seeks t (q .key) (f .heading) q) ⌝ }
     requires { ⌜ (q .search .at < placeCount) × (held ≡ getD (t .places) (q .search .at) noPlace) ⌝ }
@@ -172,7 +172,7 @@ fn judge(
     }
 }
 
-// A segment arrives. It is judged, reading only; then the verdict is performed, and one place of the copy of the table is written.
+// A segment arrives. It is judged, reading only; then the verdict is performed, and one place of the copy of the table is written. A check that looks at the verdict goes between the two.
 pub fn segment(
     t: Table,
     store: &mut [u8],
