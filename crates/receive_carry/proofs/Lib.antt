@@ -1,3 +1,2 @@
-mod Carrying
-pub mod Reported
 pub mod Stepping
+pub mod Carrying

@@ -1,4 +1,4 @@
--- What a step answers, and what its place holds before and after it.
+-- What a verdict answers and saves, and what its place holds before and after it.
 use Prim.Native.Nat.{ℕ, _≤_}
 use mathlib.Core.Path.{_≡_, refl, ap, _∙_}
 use mathlib.Core.Bool.{Bool, true, false}
@@ -7,23 +7,30 @@ use native.Mathlib.Omega.{arith}
 use lib.ListN.{getD, set}
 use lib.Seq.{set-getD}
 use Rattle.rules.specs.General.{if_then_else_}
-use Rattle.rules.specs.Numbers.{dataMost}
+use Rattle.rules.specs.Numbers.{dataMost, storeLeast}
 use Rattle.rules.specs.Places.{freePlace, noPlace, isAt, putPlace}
 use Rattle.rules.specs.Receiving.{withPlaces}
 use Rattle.rules.specs.declared.Place.{Place}
 use Rattle.rules.specs.declared.Table.{Table}
 use Rattle.rules.specs.declared.Decision.{Decision}
-use Rattle.receive_carry.specs.Carried.{foundIf, heldIf, stepTo, answerOf}
-use Rattle.receive_carry.specs.declared.Step.{Step}
+use Rattle.rules.specs.declared.Received.{Received}
+use Rattle.receive_perform.specs.Performing.{Fits}
+use Rattle.receive_perform.specs.declared.Verdict.{Verdict}
+use Rattle.receive_carry.specs.Carried.{foundIf, heldIf, takenTo}
 
--- what a step puts is what its place was made to be
-pub puts : {r : Step} {p q : Place} {d : Decision} {n : ℕ} → r ≡ stepTo p d n → p ≡ q → r ≡ stepTo q d n
-puts {r} {p} {q} {d} {n} e f = e ∙ ap (λ (x : Place). stepTo x d n) f
+-- what a verdict puts is what its place was made to be
+pub puts : {v : Verdict} {i : ℕ} {p q : Place} {d : Decision} → v ≡ takenTo i p d → p ≡ q → v ≡ takenTo i q d
+puts {v} {i} {p} {q} {d} e f = e ∙ ap (λ (x : Place). takenTo i x d) f
 
-pub step-answer : (t : Table) (at : ℕ) (r : Step) (put : Place) (d : Decision) (n : ℕ) (ps : List Place)
-    → r ≡ stepTo put d n → set (t .places) at put ≡ ps
-    → answerOf t at r ≡ record { table = withPlaces t ps; decision = d; refusal = 0; records = n }
-step-answer t at r put d n ps e f = ap (answerOf t at) e ∙ ap (λ (l : List Place). record { table = withPlaces t l; decision = d; refusal = 0; records = n }) f
+-- answers that differ in their places only
+pub places-answer : (t : Table) (d : Decision) (n : ℕ) {ps qs : List Place} → ps ≡ qs
+    → _≡_ {A = Received} (record { table = withPlaces t ps; decision = d; refusal = 0; records = n }) (record { table = withPlaces t qs; decision = d; refusal = 0; records = n })
+places-answer t d n e = ap (λ (l : List Place). record { table = withPlaces t l; decision = d; refusal = 0; records = n }) e
+
+-- a verdict saves from where it says, and has room where the one that it is has
+pub saved-as : {v w : Verdict} {i : ℕ} (n : ℕ) → v ≡ w → w .information ≡ i → ((store : ℕ) → storeLeast ≤ store → Fits w store n)
+    → (v .information ≡ i) × ((store : ℕ) → storeLeast ≤ store → Fits v store n)
+saved-as {v} {w} {i} n e f g = rw e (f, g)
 
 module _ (ps : List Place) (at : ℕ) (held : Place) (there : held ≡ getD ps at noPlace) where
   -- a place that is written back

@@ -1,25 +1,22 @@
--- A line carried out, by the one place that a segment is about: its key's, or where a new sequence goes.
-use Prim.Native.Nat.{ℕ, _≤_, _<_}
+-- A line judged, by the one place that a segment is about: its key's, or where a new sequence goes.
+use Prim.Native.Nat.{ℕ, _≤_}
 use mathlib.Core.Path.{_≡_}
-use mathlib.Core.Bool.{Bool}
+use mathlib.Core.Bool.{Bool, true}
 use mathlib.Core.List.{List}
-use lib.ListN.{length, getD, set}
+use lib.ListN.{getD}
 use Rattle.rules.specs.General.{if_then_else_}
-use Rattle.rules.specs.Numbers.{parameterMost, dataMost, storeLeast, placeCount}
+use Rattle.rules.specs.Numbers.{dataMost}
 use Rattle.rules.specs.Places.{freePlace, noPlace}
-use Rattle.octets.specs.Splice.{splice}
-use Rattle.rules.specs.Records.{recordOctets}
-use Rattle.rules.specs.Receiving.{openPlace, effectOf, Reception, receptionOf, withPlaces}
-use Rattle.receive_carry.specs.declared.Step.{Step}
+use Rattle.rules.specs.Receiving.{openPlace, effectOf, Reception, receptionOf}
+use Rattle.receive_perform.specs.Performing.{quietly}
+use Rattle.receive_perform.specs.declared.Verdict.{Verdict}
 use Rattle.receive_carry.specs.declared.Judged.{Judged}
 use Rattle.rules.specs.declared.Place.{Place}
 use Rattle.rules.specs.declared.Table.{Table}
-use Rattle.rules.specs.declared.Record.{Record}
 use Rattle.rules.specs.declared.Found.{Found}
 use Rattle.rules.specs.declared.Found.the-variants.{At, Nothing}
 use Rattle.rules.specs.declared.Line.{Line}
 use Rattle.rules.specs.declared.Decision.{Decision}
-use Rattle.rules.specs.declared.Received.{Received}
 
 -- the key's place and what was saved there, where the key is open
 abbrev pub foundIf : Bool → ℕ → Found
@@ -37,36 +34,50 @@ unfoldable pub carriedAt : Line → Table → List ℕ → List ℕ → Judged �
 carriedAt line t store report j octets =
     receptionOf t report (effectOf line t store (j .key) (j .fields) octets (foundIf (j .found) (j .at)) (heldIf (j .found) (j .held)) (At (j .at)))
 
--- a step that was not refused
-abbrev pub stepTo : Place → Decision → ℕ → Step
-stepTo put decision records = record { put = put; decision = decision; refusal = 0; records = records }
+-- a verdict that does not refuse, by where the information is; it saves nothing and has no record
+abbrev pub takenTo : ℕ → Place → Decision → Verdict
+takenTo information put decision = quietly put decision 0 information
+
+-- .. one that saves, and one that has a record
+abbrev pub savingFrom : ℕ → Verdict → Verdict
+savingFrom from v =
+    record {
+      put = v .put;
+      decision = v .decision;
+      information = v .information;
+      from = from;
+      octets = v .octets;
+      saves = true;
+      refusal = v .refusal;
+      records = v .records;
+      kind = v .kind;
+      instruction = v .instruction;
+      cause = v .cause;
+      segments = v .segments;
+    }
+
+abbrev pub tellingOf : ℕ → ℕ → ℕ → ℕ → ℕ → Verdict → Verdict
+tellingOf kind cause instruction segments octets v =
+    record {
+      put = v .put;
+      decision = v .decision;
+      information = v .information;
+      from = v .from;
+      octets = octets;
+      saves = v .saves;
+      refusal = v .refusal;
+      records = 1;
+      kind = kind;
+      instruction = instruction;
+      cause = cause;
+      segments = segments;
+    }
 
 -- the place of a sequence that begins with a segment of n octets
 abbrev pub begunBy : Judged → ℕ → Place
 begunBy j n = openPlace (j .key) (j .fields .heading .remaining) (j .fields .heading .instruction) 1 n (j .clock)
 
--- a report area before and after a record was written to its front
-abbrev pub Reports : List ℕ → Record → List ℕ → Type 0
-Reports before r after = after ≡ splice before 0 (recordOctets r)
-
--- the answer that a step makes of a table: one place changes
-abbrev pub answerOf : Table → ℕ → Step → Received
-answerOf t at r = record { table = withPlaces t (set (t .places) at (r .put)); decision = r .decision; refusal = r .refusal; records = r .records }
-
--- a step, a store and a report area that are what a rule leaves
-pub record Leads (o : Reception) (t : Table) (at : ℕ) (r : Step) (store report : List ℕ) : Type 0 where
-  pub answered : answerOf t at r ≡ o .answer
-  pub stored : store ≡ o .store
-  pub reported : report ≡ o .report
-
 -- what a place of a sound table holds
 pub record Fit (p : Place) : Type 0 where
   pub octets : p .octets ≤ dataMost
   pub segments : p .segments ≤ 9
-
--- what carrying out a line is given: a store that is long enough, a short segment, a place of the table and what a sound one holds
-pub record Ready (j : Judged) (store octets : List ℕ) : Type 0 where
-  pub enough : storeLeast ≤ length store
-  pub short : length octets ≤ parameterMost
-  pub inside : j .at < placeCount
-  pub fits : Fit (j .held)

@@ -1,4 +1,5 @@
-// The receiving lines carried out: what each does with a segment.
+// The receiving lines judged: what each does with a segment. Nothing is written here.
+use receive_perform::Verdict;
 use rules::Decision;
 use rules::Fields;
 use rules::Found;
@@ -6,28 +7,21 @@ use rules::Key;
 use rules::Line;
 use rules::Part;
 use rules::Place;
-use rules::Record;
 use rules::Table;
 ghost use mathlib.Core.Path.{_≡_};
-ghost use Prim.Native.Nat.{_+_, _≤_, _<_};
+ghost use mathlib.Core.List.{List};
+ghost use Prim.Native.Nat.{ℕ, _+_, _≤_};
 ghost use lib.ListN.{length};
 ghost use Rattle.rules.specs.General.{if_then_else_};
-ghost use Rattle.rules.specs.Numbers.{parameterMost, stretchLength, dataMost, storeLeast, placeCount};
+ghost use Rattle.rules.specs.Numbers.{parameterMost, dataMost, storeLeast};
 ghost use Rattle.rules.specs.Records.{delivered, lost};
 ghost use Rattle.rules.specs.Places.{freePlace};
-ghost use Rattle.rules.specs.Receiving.{openPlace, longer, recordWith, saveAt};
+ghost use Rattle.rules.specs.Receiving.{openPlace, longer};
 ghost use Rattle.receive_lines.specs.Telling.{Tells};
-ghost use Rattle.receive_carry.specs.Carried.{foundIf, heldIf, stepTo, begunBy, Reports, Leads, Holds, Fit, Ready, carriedAt};
+ghost use Rattle.receive_perform.specs.Performing.{Fits, Leads};
+ghost use Rattle.receive_carry.specs.Carried.{foundIf, heldIf, takenTo, savingFrom, tellingOf, begunBy, Holds, Fit, carriedAt};
 
-// What becomes of a segment: what its place holds afterwards, and the answer but for the table.
-pub struct Step {
-    pub put: Place,
-    pub decision: Decision,
-    pub refusal: u8,
-    pub records: u8,
-}
-
-// A segment judged: its sequence's key, its fields, the place that it is about and what that holds, whether the key is open there, and the time.
+// A segment as it is judged: its sequence's key, its fields, the place that it is about and what that holds, whether the key is open there, and the time.
 pub struct Judged {
     pub key: Key,
     pub fields: Fields,
@@ -35,17 +29,6 @@ pub struct Judged {
     pub clock: u32,
     pub at: usize,
     pub found: bool,
-}
-
-// Writes octets to a place's stretch of the store, from its index at on.
-fn save_at(store: &mut [u8], place: usize, at: usize, octets: &[u8])
-    requires { ⌜ (place < placeCount) × (storeLeast ≤ length (now store)) ⌝ }
-    requires { ⌜ at + length (now octets) ≤ stretchLength ⌝ }
-    ensures { λ _. ⌜ now (store .exit) ≡ saveAt (now (store .entry)) place at (now (octets .entry)) ⌝ }
-{
-    let start = rules::STRETCH * place;
-    let end = start + rules::STRETCH;
-    octets::put_at(&mut store[start..end], at, octets);
 }
 
 // The place of a segment's sequence, open after it.
@@ -63,30 +46,6 @@ fn open_place(j: Judged, instruction: u8, segments: u8, octets: u16, start: u32)
         remaining,
         segments,
     }
-}
-
-// Reports the end of a segment's sequence: Delivered, or Lost for a cause.
-fn tell(
-    j: Judged,
-    report: &mut [u8],
-    kind: u8,
-    cause: u8,
-    instruction: u8,
-    segments: u8,
-    octets: u16,
-)
-    ensures { λ _. ⌜ Reports (now (report .entry)) (recordWith kind cause (j .key) instruction segments octets) (now (report .exit)) ⌝ }
-{
-    let key = j.key;
-    let record = Record {
-        key,
-        octets,
-        kind,
-        instruction,
-        cause,
-        segments,
-    };
-    receive_report::put_record(report, 0, record);
 }
 
 // The place as a decision names it; none where the sequence is not open.
@@ -130,16 +89,35 @@ fn instruction_of(j: Judged) -> u8
     j.fields.heading.instruction
 }
 
-// A step that was not refused.
-fn taken(put: Place, decision: Decision, records: u8) -> Step
-    ensures { λ r. ⌜ r ≡ stepTo put decision records ⌝ }
+// A verdict that does not refuse. It saves nothing, and has no record.
+fn taken(j: Judged, put: Place, decision: Decision) -> Verdict
+    ensures { λ r. ⌜ r ≡ takenTo (j .fields .information) put decision ⌝ }
 {
-    Step {
-        put,
-        decision,
-        refusal: 0,
-        records,
-    }
+    receive_perform::quiet(put, decision, 0, j.fields.information)
+}
+
+// .. and one that saves the segment's information, in its place's stretch from an index on.
+fn saving(v: Verdict, from: u16) -> Verdict
+    ensures { λ r. ⌜ r ≡ savingFrom from v ⌝ }
+{
+    let mut r = v;
+    r.saves = true;
+    r.from = from;
+    r
+}
+
+// .. and one with a record: Delivered, or Lost for a cause.
+fn telling(v: Verdict, kind: u8, cause: u8, instruction: u8, segments: u8, octets: u16) -> Verdict
+    ensures { λ r. ⌜ r ≡ tellingOf kind cause instruction segments octets v ⌝ }
+{
+    let mut r = v;
+    r.records = 1;
+    r.kind = kind;
+    r.cause = cause;
+    r.instruction = instruction;
+    r.segments = segments;
+    r.octets = octets;
+    r
 }
 
 // The place of a sequence that begins with this segment, of n octets.
@@ -151,114 +129,89 @@ fn begun_place(j: Judged, n: usize) -> Place
 }
 
 // An unsegmented parameter, with n octets of information, is delivered at once and touches no place.
-fn unsegmented(j: Judged, report: &mut [u8], n: usize) -> Step
+fn unsegmented(j: Judged, n: usize) -> Verdict
     requires { ⌜ n ≤ parameterMost ⌝ }
-    ensures { λ r. ⌜ r ≡ stepTo (j .held) (Decision.Delivered (Part.OfParameter (j .fields .information) n)) 1 ⌝ }
-    ensures { λ _. ⌜ Reports (now (report .entry)) (recordWith delivered 0 (j .key) (j .fields .heading .instruction) 1 n) (now (report .exit)) ⌝ }
+    ensures { λ r. ⌜ r ≡ tellingOf delivered 0 (j .fields .heading .instruction) 1 n (takenTo (j .fields .information) (j .held) (Decision.Delivered (Part.OfParameter (j .fields .information) n))) ⌝ }
 {
-    let instruction = j.fields.heading.instruction;
-    tell(j, report, 16, 0, instruction, 1, n as u16);
     let part = Part::OfParameter {
         start: j.fields.information,
         length: n,
     };
-    let held = j.held;
-    taken(held, Decision::Delivered(part), 1)
+    let v = taken(j, j.held, Decision::Delivered(part));
+    telling(v, 16, 0, j.fields.heading.instruction, 1, n as u16)
 }
 
 // Lines 1, 4, 5 and 6: what was saved, if anything, and this segment, of n octets, are lost.
-fn broken(cause: u8, j: Judged, report: &mut [u8], n: usize) -> Step
+fn broken(cause: u8, j: Judged, n: usize) -> Verdict
     requires { ⌜ (n ≤ parameterMost) × Fit (j .held) ⌝ }
-    ensures { λ r. ⌜ r ≡ stepTo (if j .found then freePlace else j .held) (Decision.Lost cause (foundIf (j .found) (j .at))) 1 ⌝ }
-    ensures { λ _. ⌜ Reports (now (report .entry)) (recordWith lost cause (j .key) (if j .found then j .held .instruction else j .fields .heading .instruction) (heldIf (j .found) (j .held) .segments + 1) (heldIf (j .found) (j .held) .octets + n)) (now (report .exit)) ⌝ }
+    ensures { λ r. ⌜ r ≡ tellingOf lost cause (if j .found then j .held .instruction else j .fields .heading .instruction) (heldIf (j .found) (j .held) .segments + 1) (heldIf (j .found) (j .held) .octets + n) (takenTo (j .fields .information) (if j .found then freePlace else j .held) (Decision.Lost cause (foundIf (j .found) (j .at)))) ⌝ }
 {
     let p = saved_in(j);
     let octets = p.octets + (n as u16);
     let segments = p.segments + 1;
-    tell(j, report, 17, cause, instruction_of(j), segments, octets);
     let place = found_if(j.found, j.at);
-    taken(freed(j), Decision::Lost(cause, place), 1)
+    let v = taken(j, freed(j), Decision::Lost(cause, place));
+    telling(v, 17, cause, instruction_of(j), segments, octets)
 }
 
 // Line 2: what was saved is lost, and this segment starts the sequence in the same place.
-fn restart(j: Judged, store: &mut [u8], report: &mut [u8], octets: &[u8]) -> Step
-    requires { ⌜ Ready j (now store) (now octets) ⌝ }
-    ensures { λ r. ⌜ r ≡ stepTo (begunBy j (length (now (octets .entry)))) (Decision.Lost 3 (Found.At (j .at))) 1 ⌝ }
-    ensures { λ _. ⌜ now (store .exit) ≡ saveAt (now (store .entry)) (j .at) 0 (now (octets .entry)) ⌝ }
-    ensures { λ _. ⌜ Reports (now (report .entry)) (recordWith lost 3 (j .key) (j .held .instruction) (j .held .segments) (j .held .octets)) (now (report .exit)) ⌝ }
+fn restart(j: Judged, n: usize) -> Verdict
+    requires { ⌜ n ≤ parameterMost ⌝ }
+    ensures { λ r. ⌜ r ≡ tellingOf lost 3 (j .held .instruction) (j .held .segments) (j .held .octets) (savingFrom 0 (takenTo (j .fields .information) (begunBy j n) (Decision.Lost 3 (Found.At (j .at))))) ⌝ }
 {
-    let instruction = j.held.instruction;
-    tell(
-        j,
-        report,
-        17,
-        3,
-        instruction,
-        j.held.segments,
-        j.held.octets,
-    );
-    save_at(store, j.at, 0, octets);
-    let next = begun_place(j, octets.len());
-    taken(next, Decision::Lost(3, Found::At(j.at)), 1)
+    let next = begun_place(j, n);
+    let v = saving(taken(j, next, Decision::Lost(3, Found::At(j.at))), 0);
+    telling(v, 17, 3, j.held.instruction, j.held.segments, j.held.octets)
 }
 
 // Line 3: saved in the place for a new sequence.
-fn start(j: Judged, store: &mut [u8], octets: &[u8]) -> Step
-    requires { ⌜ Ready j (now store) (now octets) ⌝ }
-    ensures { λ r. ⌜ r ≡ stepTo (begunBy j (length (now (octets .entry)))) (Decision.Saved (j .at)) 0 ⌝ }
-    ensures { λ _. ⌜ now (store .exit) ≡ saveAt (now (store .entry)) (j .at) 0 (now (octets .entry)) ⌝ }
+fn start(j: Judged, n: usize) -> Verdict
+    requires { ⌜ n ≤ parameterMost ⌝ }
+    ensures { λ r. ⌜ r ≡ savingFrom 0 (takenTo (j .fields .information) (begunBy j n) (Decision.Saved (j .at))) ⌝ }
 {
-    save_at(store, j.at, 0, octets);
-    let next = begun_place(j, octets.len());
-    taken(next, Decision::Saved(j.at), 0)
+    let next = begun_place(j, n);
+    saving(taken(j, next, Decision::Saved(j.at)), 0)
 }
 
 // Line 7, none remaining: saved too, and delivered.
-fn finish(j: Judged, store: &mut [u8], report: &mut [u8], octets: &[u8]) -> Step
-    requires { ⌜ Ready j (now store) (now octets) × (j .held .octets + length (now octets) ≤ dataMost) ⌝ }
-    ensures { λ r. ⌜ r ≡ stepTo freePlace (Decision.Delivered (Part.OfStore (j .at) (j .held .octets + length (now (octets .entry))))) 1 ⌝ }
-    ensures { λ _. ⌜ now (store .exit) ≡ saveAt (now (store .entry)) (j .at) (j .held .octets) (now (octets .entry)) ⌝ }
-    ensures { λ _. ⌜ Reports (now (report .entry)) (recordWith delivered 0 (j .key) (j .held .instruction) (j .held .segments + 1) (j .held .octets + length (now (octets .entry)))) (now (report .exit)) ⌝ }
+fn finish(j: Judged, n: usize) -> Verdict
+    requires { ⌜ Fit (j .held) × (j .held .octets + n ≤ dataMost) ⌝ }
+    ensures { λ r. ⌜ r ≡ tellingOf delivered 0 (j .held .instruction) (j .held .segments + 1) (j .held .octets + n) (savingFrom (j .held .octets) (takenTo (j .fields .information) freePlace (Decision.Delivered (Part.OfStore (j .at) (j .held .octets + n))))) ⌝ }
 {
-    let saved = j.held.octets as usize;
-    save_at(store, j.at, saved, octets);
-    let total = saved + octets.len();
+    let total = (j.held.octets as usize) + n;
     let segments = j.held.segments + 1;
-    tell(j, report, 16, 0, j.held.instruction, segments, total as u16);
     let free = table::free_place();
     let part = Part::OfStore {
         place: j.at,
         length: total,
     };
-    taken(free, Decision::Delivered(part), 1)
+    let v = saving(taken(j, free, Decision::Delivered(part)), j.held.octets);
+    telling(v, 16, 0, j.held.instruction, segments, total as u16)
 }
 
 // Line 7, more remaining: saved.
-fn go_on(j: Judged, store: &mut [u8], octets: &[u8]) -> Step
-    requires { ⌜ Ready j (now store) (now octets) × (j .held .octets + length (now octets) ≤ dataMost) ⌝ }
-    ensures { λ r. ⌜ r ≡ stepTo (longer (j .held) (j .key) (j .fields .heading) (length (now (octets .entry)))) (Decision.Saved (j .at)) 0 ⌝ }
-    ensures { λ _. ⌜ now (store .exit) ≡ saveAt (now (store .entry)) (j .at) (j .held .octets) (now (octets .entry)) ⌝ }
+fn go_on(j: Judged, n: usize) -> Verdict
+    requires { ⌜ Fit (j .held) × (j .held .octets + n ≤ dataMost) ⌝ }
+    ensures { λ r. ⌜ r ≡ savingFrom (j .held .octets) (takenTo (j .fields .information) (longer (j .held) (j .key) (j .fields .heading) n) (Decision.Saved (j .at))) ⌝ }
 {
-    let saved = j.held.octets as usize;
-    save_at(store, j.at, saved, octets);
-    let total = (saved + octets.len()) as u16;
+    let total = ((j.held.octets as usize) + n) as u16;
     let segments = j.held.segments + 1;
     let next = open_place(j, j.held.instruction, segments, total, j.held.start);
-    taken(next, Decision::Saved(j.at), 0)
+    saving(taken(j, next, Decision::Saved(j.at)), j.held.octets)
 }
 
-// What a line does.
-pub fn carry_out(line: Line, j: Judged, store: &mut [u8], report: &mut [u8], octets: &[u8]) -> Step
-    requires { ⌜ Ready j (now store) (now octets) ⌝ }
-    requires { ⌜ Tells (j .found) (j .held .octets) (length (now octets)) line ⌝ }
-    ensures { λ r. ⌜ ((t : Table) → Holds t j → Leads (carriedAt line t (now (store .entry)) (now (report .entry)) j (now (octets .entry))) t (j .at) r (now (store .exit)) (now (report .exit))) ⌝ }
+// The verdict on a segment of n octets, by its line.
+pub fn judge(line: Line, j: Judged, n: usize) -> Verdict
+    requires { ⌜ (n ≤ parameterMost) × (Fit (j .held) × Tells (j .found) (j .held .octets) n line) ⌝ }
+    ensures { λ r. ⌜ ((t : Table) (store report octets : List ℕ) → Holds t j → length octets ≡ n → Leads (carriedAt line t store report j octets) t (j .at) (j .key) r octets store report) ⌝ }
+    ensures { λ r. ⌜ (r .information ≡ j .fields .information) × ((store : ℕ) → storeLeast ≤ store → Fits r store n) ⌝ }
 {
     match line {
-        Line::Unsegmented => unsegmented(j, report, octets.len()),
-        Line::Broken(cause) => broken(cause, j, report, octets.len()),
-        Line::Restart => restart(j, store, report, octets),
-        Line::Start => start(j, store, octets),
-        Line::Final => finish(j, store, report, octets),
-        Line::Next => go_on(j, store, octets),
+        Line::Unsegmented => unsegmented(j, n),
+        Line::Broken(cause) => broken(cause, j, n),
+        Line::Restart => restart(j, n),
+        Line::Start => start(j, n),
+        Line::Final => finish(j, n),
+        Line::Next => go_on(j, n),
     }
 }

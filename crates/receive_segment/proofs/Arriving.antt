@@ -31,30 +31,46 @@ use Rattle.rules.specs.declared.Found.the-variants.{At}
 use Rattle.rules.specs.declared.Line.{Line}
 use Rattle.rules.specs.declared.Line.the-variants.{Unsegmented, Broken, Restart, Start, Final, Next}
 use Rattle.receive_lines.specs.Telling.{Tells}
-use Rattle.receive_carry.specs.Carried.{foundIf, heldIf, carriedAt, answerOf, Leads, Fit}
+use Rattle.octets.proofs.Splice.{splice-nil}
+use Rattle.receive_perform.specs.Performing.{refusedWith, savedBy, toldBy, Fits, answerOf, Leads}
+use Rattle.receive_perform.specs.declared.Verdict.{Verdict}
+use Rattle.receive_carry.specs.Carried.{foundIf, heldIf, carriedAt, Fit}
 use Rattle.receive_carry.proofs.Stepping.{kept}
-use Rattle.receive_carry.specs.declared.Step.{Step}
 use Rattle.receive_carry.specs.declared.Judged.{Judged}
-use Rattle.receive_segment.specs.Arrival.{refusedWith, Seeks, arrival}
+use Rattle.receive_segment.specs.Arrival.{Seeks, arrival, OfVerdict}
 use Rattle.receive_segment.specs.declared.Sought.{Sought}
 
-pub leads-as : {o o′ : Reception} {t : Table} {at : ℕ} {r : Step} {st rp : List ℕ} → o ≡ o′ → Leads o t at r st rp → Leads o′ t at r st rp
-leads-as {o} {o′} {t} {at} {r} {st} {rp} e l =
+pub leads-as : {o o′ : Reception} {t : Table} {at : ℕ} {k : Key} {v : Verdict} {octets st rp : List ℕ} → o ≡ o′ → Leads o t at k v octets st rp → Leads o′ t at k v octets st rp
+leads-as {o} {o′} {t} {at} {k} {v} {octets} {st} {rp} e l =
     record {
       answered = l .answered ∙ ap (λ (x : Reception). x .answer) e;
       stored = l .stored ∙ ap (λ (x : Reception). x .store) e;
       reported = l .reported ∙ ap (λ (x : Reception). x .report) e;
     }
 
--- a refusal writes back what the place holds
-pub refuses : (t : Table) (store report : List ℕ) (at n : ℕ) (held : Place) (r : Step) → held ≡ getD (t .places) at noPlace → r ≡ refusedWith n held
-    → Leads (unreceived t store report n) t at r store report
-refuses t store report at n held r there e =
-    record {
-      answered = ap (answerOf t at) e ∙ rw (kept (t .places) at held there);
-      stored = refl;
-      reported = refl;
-    }
+-- .. of octets that are the same
+pub leads-of : {o : Reception} {t : Table} {at : ℕ} {k : Key} {v : Verdict} {octets octets′ st rp : List ℕ} → octets ≡ octets′ → Leads o t at k v octets st rp → Leads o t at k v octets′ st rp
+leads-of {o} {t} {at} {k} {v} {octets} {octets′} {st} {rp} e l =
+    record { answered = l .answered; stored = ap (λ (x : List ℕ). savedBy v at x st) (sym e) ∙ l .stored; reported = l .reported }
+
+-- a refusal writes back what the place holds, and nothing else
+module _ (t : Table) (at n : ℕ) (k : Key) (held : Place) (v : Verdict) (there : held ≡ getD (t .places) at noPlace) (e : v ≡ refusedWith n held) where
+  pub refuses : (octets store report : List ℕ) → Leads (unreceived t store report n) t at k v octets store report
+  refuses octets store report =
+      record {
+        answered = ap (answerOf t at) e ∙ rw (kept (t .places) at held there);
+        stored = ap (λ (w : Verdict). savedBy w at octets store) e;
+        reported = ap (λ (w : Verdict). toldBy w k report) e ∙ splice-nil report 0;
+      }
+
+  pub refused-fits : (store m : ℕ) → Fits v store m
+  refused-fits store m w = absurd (true≢false (sym w ∙ ap (λ (x : Verdict). x .saves) e))
+
+  pub refused-verdict : (store report association : ℕ) (s : List ℕ)
+      → ((st rp : List ℕ) → length st ≡ store → length rp ≡ report → segment t st rp association s ≡ unreceived t st rp n)
+      → OfVerdict t store report association s at k v
+  refused-verdict store report association s is =
+      record { leads = λ st rp a b. leads-as (sym (is st rp a b)) (refuses _ st rp); fits = refused-fits _ _ }
 
 -- where no sequence is open, what it would hold does not matter to the line
 line-closed : (a b x y : ℕ) (g : Heading) (n : ℕ) → lineOf false a x g n ≡ lineOf false b y g n
@@ -180,10 +196,10 @@ abbrev pub afterReading : Table → List ℕ → List ℕ → ℕ → List ℕ �
 afterReading t store report association s (Refused n) = unreceived t store report n
 afterReading t store report association s (Read f) = arrival t store report (keyOf association s f) f (informationOf s f)
 
-pub segment-is : (t : Table) (store report : List ℕ) (association : ℕ) (s : List ℕ) → segment t store report association s
-    ≡ judged (lentChecks (sound t) (length store) (length report)) (unreceived t store report) (afterReading t store report association s (reading (t .registry) s))
+pub segment-is : (t : Table) (store report : List ℕ) (association : ℕ) (s : List ℕ) (n m : ℕ) → length store ≡ n → length report ≡ m → segment t store report association s
+    ≡ judged (lentChecks (sound t) n m) (unreceived t store report) (afterReading t store report association s (reading (t .registry) s))
 unfolding segment segmentChecks reading arrival
-segment-is t store report association s =
+segment-is t store report association s n m a b =
     let f : Fields = fieldsOf (t .registry) s in
     let key : Key = keyOf association s f in
     let line : Line = lineAt t key (f .heading) (length (informationOf s f)) in
@@ -193,6 +209,7 @@ segment-is t store report association s =
     judged-append (areas ++ reads) full (unreceived t store report) _
     ∙ judged-append areas reads (unreceived t store report) _
     ∙ ap (λ (r : Reception). judged areas (unreceived t store report) r) (sym (judged-then (afterReading t store report association s) reads Refused (Read f)))
+    ∙ rw (a, b)
 
 -- a parameter that is read is short, and so is its address
 pub record Short (s : List ℕ) (f : Fields) : Type 0 where

@@ -3,26 +3,21 @@ use Prim.Native.Nat.{ℕ}
 use mathlib.Core.Path.{_≡_}
 use mathlib.Core.Bool.{false}
 use mathlib.Core.List.{List}
-use lib.ListN.{length}
+use lib.ListN.{length, drop}
 use Rattle.rules.specs.Refusals.{judged}
 use Rattle.rules.specs.Layout.{isUnsegmented}
 use Rattle.rules.specs.Places.{placeOf, lowestFree, placeAt}
-use Rattle.rules.specs.Receiving.{lineAt, effectOf, takingChecks, Reception, receptionOf, unreceived}
+use Rattle.rules.specs.Receiving.{lineAt, effectOf, takingChecks, Reception, receptionOf, unreceived, segment}
 use Rattle.table.specs.Seeking.{Points}
-use Rattle.receive_carry.specs.declared.Step.{Step}
+use Rattle.receive_perform.specs.Performing.{Fits, Leads}
+use Rattle.receive_perform.specs.declared.Verdict.{Verdict}
 use Rattle.receive_segment.specs.declared.Sought.{Sought}
 use Rattle.rules.specs.declared.Key.{Key}
-use Rattle.rules.specs.declared.Place.{Place}
 use Rattle.rules.specs.declared.Table.{Table}
 use Rattle.rules.specs.declared.Heading.{Heading}
 use Rattle.rules.specs.declared.Fields.{Fields}
 use Rattle.rules.specs.declared.Found.{Found}
 use Rattle.rules.specs.declared.Line.{Line}
-use Rattle.rules.specs.declared.Decision.the-variants.{Refused}
-
--- a refusal: the place stays as it is
-abbrev pub refusedWith : ℕ → Place → Step
-refusedWith n held = record { put = held; decision = Refused; refusal = n; records = 0 }
 
 -- what is sought for a key; an unsegmented parameter needs no place
 pub record Seeks (t : Table) (k : Key) (g : Heading) (q : Sought) : Type 0 where
@@ -37,3 +32,8 @@ arrival t store report key f octets =
     let line : Line = lineAt t key (f .heading) (length octets) in
     judged (takingChecks line (t .places)) (unreceived t store report)
     (receptionOf t report (effectOf line t store key f octets place (placeAt (t .places) place) vacant))
+
+-- a verdict on a segment, with a store and a report area of these lengths: performed on any such two it leaves what the rule does, and what it saves has room
+pub record OfVerdict (t : Table) (store report association : ℕ) (s : List ℕ) (place : ℕ) (key : Key) (v : Verdict) : Type 0 where
+  pub leads : (st rp : List ℕ) → length st ≡ store → length rp ≡ report → Leads (segment t st rp association s) t place key v (drop (v .information) s) st rp
+  pub fits : Fits v store (length (drop (v .information) s))

@@ -1,7 +1,7 @@
 // Segments joined: the segment call.
 use param_read::Reading;
 use receive_carry::Judged;
-use receive_carry::Step;
+use receive_perform::Verdict;
 use rules::Decision;
 use rules::Fields;
 use rules::Key;
@@ -11,17 +11,18 @@ use rules::Table;
 use table::Search;
 ghost use mathlib.Core.Path.{_≡_};
 ghost use mathlib.Core.Bool.{true, false};
-ghost use Prim.Native.Nat.{_≤_, _<_};
-ghost use lib.ListN.{length, getD};
+ghost use mathlib.Core.List.{List};
+ghost use Prim.Native.Nat.{ℕ, _≤_, _<_};
+ghost use lib.ListN.{length, drop, getD};
 ghost use Rattle.rules.specs.Numbers.{parameterMost, storeLeast, addressMost, placeCount};
 ghost use Rattle.rules.specs.Places.{noPlace, placeOf, lowestFree};
-ghost use Rattle.rules.specs.Receiving.{keyOf, informationOf, segment};
+ghost use Rattle.rules.specs.Receiving.{keyOf, informationOf};
 ghost use Rattle.rules.specs.Soundness.{sound};
 ghost use Rattle.rules.specs.Promises.{OfSegment};
 ghost use Rattle.param_read.specs.Reading.{reading};
 ghost use Rattle.table.specs.Seeking.{Points};
-ghost use Rattle.receive_carry.specs.Carried.{Leads};
-ghost use Rattle.receive_segment.specs.Arrival.{refusedWith, Seeks, arrival};
+ghost use Rattle.receive_perform.specs.Performing.{refusedWith, Fits, Leads};
+ghost use Rattle.receive_segment.specs.Arrival.{Seeks, arrival, OfVerdict};
 
 // A parameter's reading, its key, and the place that it is about.
 pub struct Sought {
@@ -51,16 +52,11 @@ fn key_of(association: u16, s: &[u8], f: Fields) -> Key
     }
 }
 
-// A refusal: the place stays as it is.
-fn refused(number: u8, held: Place) -> Step
+// A refusal: the place stays as it is, and nothing is to be written.
+fn refused(number: u8, held: Place) -> Verdict
     ensures { λ r. ⌜ r ≡ refusedWith number held ⌝ }
 {
-    Step {
-        put: held,
-        decision: Decision::Refused,
-        refusal: number,
-        records: 0,
-    }
+    receive_perform::quiet(held, Decision::Refused, number, 0)
 }
 
 // A parameter that touches no place.
@@ -116,27 +112,18 @@ fn seek(t: Table, association: u16, s: &[u8]) -> Sought
     }
 }
 
-// A segment that has been read: judged, and carried out.
-fn arrive(
-    t: Table,
-    store: &mut [u8],
-    report: &mut [u8],
-    s: &[u8],
-    f: Fields,
-    q: Sought,
-    held: Place,
-) -> Step
-    requires { ⌜ (sound t ≡ true) × (storeLeast ≤ length (now store)) ⌝ }
-    requires { ⌜ (length (now s) ≤ parameterMost) × Seeks t (q .key) (f .heading) q ⌝ }
+// The verdict on a segment that has been read. The checks of where its line takes it are the last ones.
+fn arrive(t: Table, s: &[u8], f: Fields, q: Sought, held: Place) -> Verdict
+    requires { ⌜ (sound t ≡ true) × ((length (now s) ≤ parameterMost) × Seeks t (q .key) (f .heading) q) ⌝ }
     requires { ⌜ (q .search .at < placeCount) × (held ≡ getD (t .places) (q .search .at) noPlace) ⌝ }
-    ensures { λ r. ⌜ Leads (arrival t (now (store .entry)) (now (report .entry)) (q .key) f (informationOf (now (s .entry)) f)) t (q .search .at) r (now (store .exit)) (now (report .exit)) ⌝ }
+    ensures { λ r. ⌜ ((store report : List ℕ) → Leads (arrival t store report (q .key) f (informationOf (now (s .entry)) f)) t (q .search .at) (q .key) r (drop (r .information) (now (s .entry))) store report) ⌝ }
+    ensures { λ r. ⌜ ((store : ℕ) → storeLeast ≤ store → Fits r store (length (drop (r .information) (now (s .entry))))) ⌝ }
 {
-    let from = f.information;
-    let octets = param_read::tail(s, from);
+    let n = param_read::tail(s, f.information).len();
     let heading = f.heading;
     let remaining = held.remaining;
     let search = q.search;
-    let line = receive_lines::line_of(search.found, remaining, held.octets, heading, octets.len());
+    let line = receive_lines::line_of(search.found, remaining, held.octets, heading, n);
     let full = receive_lines::starts(line) & !search.vacant;
     if full {
         return refused(10, held);
@@ -150,42 +137,42 @@ fn arrive(
         at: search.at,
         found: search.found,
     };
-    receive_carry::carry_out(line, j, store, report, octets)
+    receive_carry::judge(line, j, n)
 }
 
-// What becomes of a segment at a table, whether sound or not.
-fn step(
+// The verdict on a segment at a table, whether sound or not, with a store and a report area of these lengths.
+fn judge(
     t: Table,
     is_sound: bool,
-    store: &mut [u8],
-    report: &mut [u8],
+    store: usize,
+    report: usize,
     association: u16,
     s: &[u8],
     q: Sought,
     held: Place,
-) -> Step
+) -> Verdict
     requires { ⌜ «is_sound» ≡ sound t ⌝ }
     requires { ⌜ (q .reading ≡ reading (t .registry) (now s)) × ((f : Fields) → q .reading ≡ Reading.Read f → Seeks t (keyOf association (now s) f) (f .heading) q) ⌝ }
     requires { ⌜ (q .search .at < placeCount) × (held ≡ getD (t .places) (q .search .at) noPlace) ⌝ }
-    ensures { λ r. ⌜ Leads (segment t (now (store .entry)) (now (report .entry)) association (now (s .entry))) t (q .search .at) r (now (store .exit)) (now (report .exit)) ⌝ }
+    ensures { λ r. ⌜ OfVerdict t store report association (now (s .entry)) (q .search .at) (q .key) r ⌝ }
 {
     if !is_sound {
         return refused(1, held);
     }
-    if store.len() < rules::STORE {
+    if store < rules::STORE {
         return refused(2, held);
     }
-    if report.len() < rules::RECORD {
+    if report < rules::RECORD {
         return refused(3, held);
     }
     let reading = q.reading;
     match reading {
         Reading::Refused(number) => refused(number, held),
-        Reading::Read(f) => arrive(t, store, report, s, f, q, held),
+        Reading::Read(f) => arrive(t, s, f, q, held),
     }
 }
 
-// A segment arrives. The table is copied once, and one place of the copy is written.
+// A segment arrives. It is judged, reading only; then the verdict is performed, and one place of the copy of the table is written. A check that looks at the verdict goes between the two.
 pub fn segment(
     t: Table,
     store: &mut [u8],
@@ -195,19 +182,37 @@ pub fn segment(
 ) -> Received
     ensures { λ r. ⌜ OfSegment t (now (store .entry)) (now (report .entry)) association (now (s .entry)) r (now (store .exit)) (now (report .exit)) ⌝ }
 {
-    let mut next = t;
     let is_sound = sound::is_sound(t);
+    let mut next = t;
     let q = seek(t, association, s);
     let at = q.search.at;
     let held = next.places[at];
-    let r = step(t, is_sound, store, report, association, s, q, held);
-    let put = r.put;
+    let v = judge(
+        t,
+        is_sound,
+        store.len(),
+        report.len(),
+        association,
+        s,
+        q,
+        held,
+    );
+    let key = q.key;
+    receive_perform::perform(
+        v,
+        at,
+        key,
+        store,
+        report,
+        param_read::tail(s, v.information),
+    );
+    let put = v.put;
     next.places[at] = put;
-    let decision = r.decision;
+    let decision = v.decision;
     Received {
         table: next,
         decision,
-        refusal: r.refusal,
-        records: r.records,
+        refusal: v.refusal,
+        records: v.records,
     }
 }

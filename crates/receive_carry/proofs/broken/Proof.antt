@@ -13,20 +13,14 @@ cast-octets c = search needs
 
 add-octets : tie.Need-add-octets
 add-octets c =
-    let s = c .before .before .before in
+    let s = c .before .before in
     omega (arith, s .pre .0, rw (← c .before .saved-in .ensures) at (octets-most (s .args .j .found) (s .args .j .held) (s .pre .1 .octets)))
 
 add-segments : tie.Need-add-segments
 add-segments c =
     let h = c .before .before in
-    let s = h .before .before in
+    let s = h .before in
     omega (arith, rw (← h .saved-in .ensures) at (segments-most (s .args .j .found) (s .args .j .held) (s .pre .1 .segments)))
-
-instruction-of-requires : tie.Need-instruction-of-requires
-instruction-of-requires c κs = search needs
-
-tell-requires : tie.Need-tell-requires
-tell-requires c κs = search needs
 
 found-if-requires : tie.Need-found-if-requires
 found-if-requires c κs = search needs
@@ -37,15 +31,19 @@ freed-requires c κs = search needs
 taken-requires : tie.Need-taken-requires
 taken-requires c κs = search needs
 
-same-length : tie.Need-same-length
-same-length c = search needs
+instruction-of-requires : tie.Need-instruction-of-requires
+instruction-of-requires c κs = search needs
+
+telling-requires : tie.Need-telling-requires
+telling-requires c κs = search needs
 
 returns : tie.Need-returns
 returns c =
-    let i = c .before .before .before .before .before .before in (
-      c .taken .ensures ∙ rw (c .before .freed .ensures, c .before .before .found-if .ensures),
-      c .before .before .before .before .before .tell .ensures ∙ rw (i .instruction-of .ensures, i .before .before .before .before .saved-in .ensures),
-    )
+    let i = c .before in
+    let k = i .before in
+    let f = k .before in
+    let n = f .before in
+    c .telling .ensures ∙ rw (i .instruction-of .ensures, k .taken .ensures, f .freed .ensures, n .found-if .ensures, n .before .before .before .saved-in .ensures)
 
 pub broken-spec : {M : Type 1} → statement M
 broken-spec =
@@ -55,10 +53,9 @@ broken-spec =
     cast-octets
     add-octets
     add-segments
-    instruction-of-requires
-    tell-requires
     found-if-requires
     freed-requires
     taken-requires
-    same-length
+    instruction-of-requires
+    telling-requires
     returns)

@@ -1,26 +1,18 @@
-use native.Mathlib.Omega.{arith}
+use mathlib.Core.Path.{ap, _∙_}
+use Rattle.receive_carry.specs.Carried.{savingFrom, tellingOf}
 use Rattle.receive_carry.proofs.Stepping.{puts}
 use borrow.Author.Needs.{needs}
 use Rattle.receive_carry.proofs.finish.Statement.{statement}
 use Rattle.receive_carry.proofs.finish.Tie as tie
 
-cast-saved : tie.Need-cast-saved
-cast-saved c = search needs
-
-save-at-requires : tie.Need-save-at-requires
-save-at-requires c κs = search needs
+cast-total : tie.Need-cast-total
+cast-total c = search needs
 
 add-total : tie.Need-add-total
 add-total c = search needs
 
 add-segments : tie.Need-add-segments
-add-segments c = omega (arith, c .before .before .before .before .before .before .before .before .before .pre .0 .fits .segments)
-
-cast-tell : tie.Need-cast-tell
-cast-tell c = search needs
-
-tell-requires : tie.Need-tell-requires
-tell-requires c κs = search needs
+add-segments c = search needs
 
 free-place-requires : tie.Need-free-place-requires
 free-place-requires c κs = search needs
@@ -28,27 +20,32 @@ free-place-requires c κs = search needs
 taken-requires : tie.Need-taken-requires
 taken-requires c κs = search needs
 
-same-length : tie.Need-same-length
-same-length c = search needs
+saving-requires : tie.Need-saving-requires
+saving-requires c κs = search needs
 
-same-length-2 : tie.Need-same-length-2
-same-length-2 c = search needs
+cast-telling : tie.Need-cast-telling
+cast-telling c = search needs
+
+telling-requires : tie.Need-telling-requires
+telling-requires c κs = search needs
 
 returns : tie.Need-returns
-returns c = (puts (c .taken .ensures) (c .before .free-place .ensures), (c .before .before .before .before .before .before .before .before .before .save-at .ensures, c .before .before .before .before .tell .ensures))
+returns c =
+    let v = c .before in
+    let k = v .before in
+    let freed = puts (k .taken .ensures) (k .before .free-place .ensures) in
+    c .telling .ensures ∙ ap (tellingOf 16 0 _ _ _) (v .saving .ensures ∙ ap (savingFrom _) freed)
 
 pub finish-spec : {M : Type 1} → statement M
 finish-spec =
     tie.close
     (tie.spec
-    cast-saved
-    save-at-requires
+    cast-total
     add-total
     add-segments
-    cast-tell
-    tell-requires
     free-place-requires
     taken-requires
-    same-length
-    same-length-2
+    saving-requires
+    cast-telling
+    telling-requires
     returns)

@@ -1,19 +1,18 @@
+use mathlib.Core.Path.{ap, _∙_}
+use Rattle.receive_carry.specs.Carried.{savingFrom}
 use Rattle.receive_carry.proofs.Stepping.{puts}
 use borrow.Author.Needs.{needs}
 use Rattle.receive_carry.proofs.go_on.Statement.{statement}
 use Rattle.receive_carry.proofs.go_on.Tie as tie
 
-cast-saved : tie.Need-cast-saved
-cast-saved c = search needs
-
-save-at-requires : tie.Need-save-at-requires
-save-at-requires c κs = search needs
+cast-total : tie.Need-cast-total
+cast-total c = search needs
 
 add-total : tie.Need-add-total
 add-total c = search needs
 
-cast-total : tie.Need-cast-total
-cast-total c = search needs
+cast-total-2 : tie.Need-cast-total-2
+cast-total-2 c = search needs
 
 add-segments : tie.Need-add-segments
 add-segments c = search needs
@@ -24,22 +23,23 @@ open-place-requires c κs = search needs
 taken-requires : tie.Need-taken-requires
 taken-requires c κs = search needs
 
-same-length : tie.Need-same-length
-same-length c = search needs
+saving-requires : tie.Need-saving-requires
+saving-requires c κs = search needs
 
 returns : tie.Need-returns
-returns c = (puts (c .taken .ensures) (c .before .open-place .ensures), c .before .before .before .before .before .save-at .ensures)
+returns c =
+    let k = c .before in
+    c .saving .ensures ∙ ap (savingFrom _) (puts (k .taken .ensures) (k .before .open-place .ensures))
 
 pub go-on-spec : {M : Type 1} → statement M
 go-on-spec =
     tie.close
     (tie.spec
-    cast-saved
-    save-at-requires
-    add-total
     cast-total
+    add-total
+    cast-total-2
     add-segments
     open-place-requires
     taken-requires
-    same-length
+    saving-requires
     returns)

@@ -1,13 +1,9 @@
+use mathlib.Core.Path.{ap, _∙_}
+use Rattle.receive_carry.specs.Carried.{savingFrom, tellingOf}
 use Rattle.receive_carry.proofs.Stepping.{puts}
 use borrow.Author.Needs.{needs}
 use Rattle.receive_carry.proofs.restart.Statement.{statement}
 use Rattle.receive_carry.proofs.restart.Tie as tie
-
-tell-requires : tie.Need-tell-requires
-tell-requires c κs = search needs
-
-save-at-requires : tie.Need-save-at-requires
-save-at-requires c κs = search needs
 
 begun-place-requires : tie.Need-begun-place-requires
 begun-place-requires c κs = search needs
@@ -15,23 +11,20 @@ begun-place-requires c κs = search needs
 taken-requires : tie.Need-taken-requires
 taken-requires c κs = search needs
 
-same-length : tie.Need-same-length
-same-length c = search needs
+saving-requires : tie.Need-saving-requires
+saving-requires c κs = search needs
 
-same-length-2 : tie.Need-same-length-2
-same-length-2 c = search needs
+telling-requires : tie.Need-telling-requires
+telling-requires c κs = search needs
 
 returns : tie.Need-returns
-returns c = (puts (c .taken .ensures) (c .before .begun-place .ensures), (c .before .before .before .before .save-at .ensures, c .before .before .before .before .before .before .before .before .tell .ensures))
+returns c =
+    let v = c .before in
+    let k = v .before in
+    let lost = puts (k .taken .ensures) (k .before .begun-place .ensures) in
+    c .telling .ensures ∙ ap (tellingOf 17 3 _ _ _) (v .saving .ensures ∙ ap (savingFrom 0) lost)
 
 pub restart-spec : {M : Type 1} → statement M
 restart-spec =
     tie.close
-    (tie.spec
-    tell-requires
-    save-at-requires
-    begun-place-requires
-    taken-requires
-    same-length
-    same-length-2
-    returns)
+    (tie.spec begun-place-requires taken-requires saving-requires telling-requires returns)

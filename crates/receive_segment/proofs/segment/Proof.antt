@@ -1,4 +1,4 @@
-use mathlib.Core.Path.{refl}
+use mathlib.Core.Path.{refl, _∙_}
 use borrow.Author.Needs.{needs}
 use Rattle.receive_segment.proofs.segment.Statement.{statement}
 use Rattle.receive_segment.proofs.segment.Tie as tie
@@ -15,10 +15,16 @@ mul-held c = search needs
 element-copy-out-held : tie.Need-element-copy-out-held
 element-copy-out-held c = search needs
 
-step-requires : tie.Need-step-requires
-step-requires c κs =
-    let k = c .before .before .before in
-    (k .before .is-sound .ensures, ((k .seek .ensures .0 .0, k .seek .ensures .1), (k .seek .ensures .0 .1, refl)))
+judge-requires : tie.Need-judge-requires
+judge-requires c κs = search needs
+
+tail-requires : tie.Need-tail-requires
+tail-requires c κs = search needs
+
+perform-requires : tie.Need-perform-requires
+perform-requires c κs =
+    let j = c .before .before .before .before in
+    (j .before .before .seek .ensures .0 .1, rw (c .tail .ensures) (j .judge .ensures .fits))
 
 mul-put : tie.Need-mul-put
 mul-put c = search needs
@@ -33,7 +39,11 @@ same-length-2 : tie.Need-same-length-2
 same-length-2 c = search needs
 
 returns : tie.Need-returns
-returns c = search needs
+returns c =
+    let p = c .before .before .before .before .before in
+    let k = p .before in
+    let l = k .before .before .before .before .judge .ensures .leads _ _ refl refl in
+    record { answered = l .answered; stored = rw (k .tail .ensures) at (p .perform .ensures .0) ∙ l .stored; reported = p .perform .ensures .1 ∙ l .reported }
 
 pub segment-spec : {M : Type 1} → statement M
 segment-spec =
@@ -43,7 +53,9 @@ segment-spec =
     seek-requires
     mul-held
     element-copy-out-held
-    step-requires
+    judge-requires
+    tail-requires
+    perform-requires
     mul-put
     element-set-from-put
     same-length
