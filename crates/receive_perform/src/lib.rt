@@ -48,15 +48,15 @@ pub fn quiet(put: Place, decision: Decision, refusal: u8, information: usize) ->
     }
 }
 
-// Writes octets to a place's stretch of the store, from its index at on. What is lent is as long as the octets.
+// Writes octets to a place's stretch of the store, from its index at on.
 fn save_at(store: &mut [u8], place: usize, at: usize, octets: &[u8])
     requires { ⌜ (place < placeCount) × (storeLeast ≤ length (now store)) ⌝ }
     requires { ⌜ at + length (now octets) ≤ stretchLength ⌝ }
     ensures { λ _. ⌜ now (store .exit) ≡ saveAt (now (store .entry)) place at (now (octets .entry)) ⌝ }
 {
-    let start = rules::STRETCH * place + at;
-    let end = start + octets.len();
-    octets::put(&mut store[start..end], octets);
+    let start = rules::STRETCH * place;
+    let end = start + rules::STRETCH;
+    octets::put_at(&mut store[start..end], at, octets);
 }
 
 // Saves the information in its place where a verdict saves.

@@ -198,14 +198,8 @@ pub fn segment(
         held,
     );
     let key = q.key;
-    receive_perform::perform(
-        v,
-        at,
-        key,
-        store,
-        report,
-        param_read::tail(s, v.information),
-    );
+    let octets = param_read::tail(s, v.information);
+    receive_perform::perform(v, at, key, store, report, octets);
     let put = v.put;
     next.places[at] = put;
     let decision = v.decision;

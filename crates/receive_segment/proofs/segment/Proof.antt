@@ -23,8 +23,9 @@ tail-requires c κs = search needs
 
 perform-requires : tie.Need-perform-requires
 perform-requires c κs =
-    let j = c .before .before .before .before in
-    (j .before .before .seek .ensures .0 .1, rw (c .tail .ensures) (j .judge .ensures .fits))
+    let t = c .before .before in
+    let j = t .before .before in
+    (j .before .before .seek .ensures .0 .1, rw (t .tail .ensures) (j .judge .ensures .fits))
 
 mul-put : tie.Need-mul-put
 mul-put c = search needs
@@ -41,9 +42,9 @@ same-length-2 c = search needs
 returns : tie.Need-returns
 returns c =
     let p = c .before .before .before .before .before in
-    let k = p .before in
-    let l = k .before .before .before .before .judge .ensures .leads _ _ refl refl in
-    record { answered = l .answered; stored = rw (k .tail .ensures) at (p .perform .ensures .0) ∙ l .stored; reported = p .perform .ensures .1 ∙ l .reported }
+    let t = p .before .before .before in
+    let l = t .before .before .judge .ensures .leads _ _ refl refl in
+    record { answered = l .answered; stored = rw (t .tail .ensures) at (p .perform .ensures .0) ∙ l .stored; reported = p .perform .ensures .1 ∙ l .reported }
 
 pub segment-spec : {M : Type 1} → statement M
 segment-spec =
