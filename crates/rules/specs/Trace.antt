@@ -10,7 +10,7 @@ use Rattle.rules.specs.Numbers.{storeLeast}
 use Rattle.rules.specs.Layout.{octet}
 use Rattle.rules.specs.Sweep.{reportLeast}
 use Rattle.rules.specs.Opening.{unopened}
-use Rattle.rules.specs.Calls.{State, stateOf, Call, toOpen, toArrive, toTick, toRelease, Answer, Outcome, step}
+use Rattle.rules.specs.Calls.{State, stateOf, Call, toOpen, toArrive, toTick, toRelease, Lent, lending, Answer, Outcome, step}
 
 -- each is one kind octet and a body whose length the kind fixes
 abbrev pub isKnown : ℕ → Bool
@@ -52,12 +52,12 @@ itemsOf (suc n) (kind ∷ l) =
     then itemOf kind (take (bodyLength kind) l) ∷ itemsOf n (drop (bodyLength kind) l)
     else Stops ∷ []
 
--- what a replay hands on: the registry as read, whether an open has been met, the state and the report area
+-- what a replay hands on: the registry as read, whether an open has been met, the state and the areas that are lent beside the store
 pub record Replay : Type 0 where
   pub registry : List ℕ
   pub begun : Bool
   pub state : State
-  pub report : List ℕ
+  pub lent : Lent
 
 -- an event before open meets the unopened table
 abbrev pub beginning : Replay
@@ -66,15 +66,15 @@ beginning =
       registry = [];
       begun = false;
       state = stateOf unopened (replicate storeLeast 0);
-      report = replicate reportLeast 0;
+      lent = lending (replicate reportLeast 0) [];
     }
 
 -- every open uses the whole registry as read
 abbrev pub callOf : Replay → Event → Call
 callOf r (Opening timer time) = toOpen (r .registry) timer time
-callOf r (Segment association s) = toArrive association s (r .report)
-callOf r (Clock time) = toTick time (r .report)
-callOf r (Release association) = toRelease association (r .report)
+callOf r (Segment association s) = toArrive association s (r .lent .report)
+callOf r (Clock time) = toTick time (r .lent .report)
+callOf r (Release association) = toRelease association (r .lent .report)
 
 abbrev pub isOpening : Event → Bool
 isOpening (Opening timer time) = true
@@ -82,15 +82,15 @@ isOpening (Segment association s) = false
 isOpening (Clock time) = false
 isOpening (Release association) = false
 
--- an opening lends no report area
-abbrev pub reportAfter : Replay → Event → Answer → List ℕ
-reportAfter r e a = if isOpening e then r .report else a .lent .report
+-- an opening lends none: they stay
+abbrev pub lentAfter : Replay → Event → Answer → Lent
+lentAfter r e a = if isOpening e then r .lent else a .lent
 
 abbrev pub happened : Replay → Event → Outcome → Replay
-happened r e o = record { registry = r .registry; begun = r .begun || isOpening e; state = o .state; report = reportAfter r e (o .answer) }
+happened r e o = record { registry = r .registry; begun = r .begun || isOpening e; state = o .state; lent = lentAfter r e (o .answer) }
 
 abbrev pub registered : Replay → List ℕ → Replay
-registered r octets = record { registry = r .registry ++ octets; begun = r .begun; state = r .state; report = r .report }
+registered r octets = record { registry = r .registry ++ octets; begun = r .begun; state = r .state; lent = r .lent }
 
 -- what is seen of an event: the state that it meets, and what comes of it
 pub record Sight : Type 0 where

@@ -7,7 +7,7 @@ use lib.Dec.{eqb, ltb}
 use lib.ListN.{length, drop}
 use Rattle.octets.specs.Splice.{Wrote}
 use Rattle.rules.specs.General.{if_then_else_}
-use Rattle.rules.specs.Calls.{State, stateOf}
+use Rattle.rules.specs.Calls.{State, stateOf, Lent}
 use Rattle.rules.specs.Trace.{Observer}
 use Rattle.rules.specs.Lines.{stopIf, counted, lining}
 use Rattle.rules.specs.Listing.{listing}
@@ -81,18 +81,18 @@ pub record Turned (M : Type 0) : Type 0 where
   pub memory : M
   pub held : Replay
   pub store : List ℕ
-  pub report : List ℕ
+  pub lent : Lent
   pub used : ℕ
   pub ended : Bool
 
 -- a turn of the code: the lines are at the front of the lent area, and the rest of it stays
-pub record OfTurn (want : Turned ℕ) (out : List ℕ) (answer : Progress) (store′ report′ out′ : List ℕ) : Type 0 where
+pub record OfTurn (want : Turned ℕ) (out : List ℕ) (answer : Progress) (store′ : List ℕ) (lent′ : Lent) (out′ : List ℕ) : Type 0 where
   pub replay : answer .replay ≡ want .held
   pub events : answer .events ≡ want .memory
   pub used : answer .used ≡ want .used
   pub ended : answer .ended ≡ want .ended
   pub stored : store′ ≡ want .store
-  pub reported : report′ ≡ want .report
+  pub lends : lent′ ≡ want .lent
   pub wrote : Wrote out 0 (want .lines) out′ (answer .written)
 
 -- no watcher prints more of one event
@@ -107,31 +107,31 @@ module _ {M : Type 0} (o : Observer M) where
         memory = memoryOf o m (w .front);
         held = w .held;
         store = w .store;
-        report = w .report;
+        lent = w .lent;
         used = w .used;
         ended = isStop (w .front);
       }
 
   -- the record at the front
-  abbrev pub turned : M → Replay → List ℕ → List ℕ → List ℕ → Turned M
-  turned m held store report input = turnOf m (stateOf (held .table) store) (walked held store report input)
+  abbrev pub turned : M → Replay → List ℕ → Lent → List ℕ → Turned M
+  turned m held store lent input = turnOf m (stateOf (held .table) store) (walked held store lent input)
 
   -- nothing is done
-  abbrev pub resting : M → Replay → List ℕ → List ℕ → Turned M
-  resting m held store report = record { lines = []; memory = m; held = held; store = store; report = report; used = 0; ended = false }
+  abbrev pub resting : M → Replay → List ℕ → Lent → Turned M
+  resting m held store lent = record { lines = []; memory = m; held = held; store = store; lent = lent; used = 0; ended = false }
 
   abbrev pub joined : Turned M → Turned M → Turned M
   joined a b =
-      record { lines = a .lines ++ b .lines; memory = b .memory; held = b .held; store = b .store; report = b .report; used = a .used + b .used; ended = b .ended }
+      record { lines = a .lines ++ b .lines; memory = b .memory; held = b .held; store = b .store; lent = b .lent; used = a .used + b .used; ended = b .ended }
 
   -- so many turns at most, as long as there is room for what one prints
-  unfoldable pub runs : ℕ → ℕ → M → Replay → List ℕ → List ℕ → List ℕ → Turned M
-  runs zero room m held store report input = resting m held store report
-  runs (suc n) room m held store report input =
-      let t : Turned M = turned m held store report input in
-      if ltb room toldMost then resting m held store report else
+  unfoldable pub runs : ℕ → ℕ → M → Replay → List ℕ → Lent → List ℕ → Turned M
+  runs zero room m held store lent input = resting m held store lent
+  runs (suc n) room m held store lent input =
+      let t : Turned M = turned m held store lent input in
+      if ltb room toldMost then resting m held store lent else
       if t .ended || eqb (t .used) 0 then t else
-      joined t (runs n (room - length (t .lines)) (t .memory) (t .held) (t .store) (t .report) (drop (t .used) input))
+      joined t (runs n (room - length (t .lines)) (t .memory) (t .held) (t .store) (t .lent) (drop (t .used) input))
 
   -- where the input has ended, with so many octets left
   abbrev pub endOf : M → Replay → List ℕ → ℕ → List ℕ

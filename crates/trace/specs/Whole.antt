@@ -11,7 +11,7 @@ use Rattle.rules.specs.Numbers.{storeLeast}
 use Rattle.rules.specs.Registry.{isCut}
 use Rattle.rules.specs.Opening.{unopened}
 use Rattle.rules.specs.Sweep.{reportLeast}
-use Rattle.rules.specs.Calls.{stateOf}
+use Rattle.rules.specs.Calls.{stateOf, Lent, lending}
 use Rattle.rules.specs.Trace.{itemsOf, Observer, watched, watching}
 use Rattle.rules.specs.Trace as trace
 use Rattle.trace_events.specs.Events.{registryOf}
@@ -19,8 +19,8 @@ use Rattle.trace_events.specs.declared.Replay.{Replay}
 use Rattle.trace.specs.Watching.{Turned, turned, toldMost, runs, endOf}
 
 -- what the code holds is a replay r of the rule, but that of the registry as read only the first nine records are kept; no record of it is cut
-pub record Shows (held : Replay) (store report : List ℕ) (r : trace.Replay) : Type 0 where
-  pub is : r ≡ record { registry = r .registry; begun = held .begun; state = stateOf (held .table) store; report = report }
+pub record Shows (held : Replay) (store : List ℕ) (lent : Lent) (r : trace.Replay) : Type 0 where
+  pub is : r ≡ record { registry = r .registry; begun = held .begun; state = stateOf (held .table) store; lent = lent }
   pub registry : registryOf held ≡ take 27 (r .registry)
   pub most : held .length ≤ 27
   pub area : length (held .registry) ≡ 27
@@ -42,30 +42,30 @@ module _ {M : Type 0} (o : Observer M) where
   -- the lines of what was done with the front of an input, and then those of what is left of it, are the rule's, whatever comes after the input
   pub record Follows (m : M) (r : trace.Replay) (input : List ℕ) (t : Turned M) : Type 0 where
     pub next : trace.Replay
-    pub shows : Shows (t .held) (t .store) (t .report) next
+    pub shows : Shows (t .held) (t .store) (t .lent) next
     pub prints : (rest : List ℕ) → watchedFrom m r (input ++ rest) ≡ t .lines ++ (if t .ended then [] else watchedFrom (t .memory) next (drop (t .used) input ++ rest))
 
   -- 1. a block: any number of turns, any room, any input
   abbrev pub ByBlocks : Type 0
   ByBlocks =
-      (n room : ℕ) (m : M) (held : Replay) (store report input : List ℕ) (r : trace.Replay) → Shows held store report r → Follows m r input (runs o n room m held store report input)
+      (n room : ℕ) (m : M) (held : Replay) (store : List ℕ) (lent : Lent) (input : List ℕ) (r : trace.Replay) → Shows held store lent r → Follows m r input (runs o n room m held store lent input)
 
   -- 2. the end of the input, once a turn waits for more: what is left is nothing or a cut record
   abbrev pub AtEnd : Type 0
   AtEnd =
-      (m : M) (held : Replay) (store report input : List ℕ) (r : trace.Replay) → Shows held store report r
-      → turned o m held store report input .used ≡ 0 → turned o m held store report input .ended ≡ false → watchedFrom m r input ≡ endOf o m held store (length input)
+      (m : M) (held : Replay) (store : List ℕ) (lent : Lent) (input : List ℕ) (r : trace.Replay) → Shows held store lent r
+      → turned o m held store lent input .used ≡ 0 → turned o m held store lent input .ended ≡ false → watchedFrom m r input ≡ endOf o m held store (length input)
 
   -- the program's turns, so many at most: a block of what is there, its lines, and on with what is left; where nothing was used, with what is read next behind it, or to the end
   abbrev pub behind : (List ℕ → List (List ℕ) → List ℕ) → List ℕ → List ℕ → List (List ℕ) → List ℕ
   behind on end left [] = end
   behind on end left (octets ∷ reads) = on (left ++ octets) reads
 
-  unfoldable pub session : ℕ → ℕ → M → Replay → List ℕ → List ℕ → List ℕ → List (List ℕ) → List ℕ
-  session zero room m held store report left reads = []
-  session (suc n) room m held store report left reads =
-      let t : Turned M = runs o (length left) room m held store report left in
-      let on : List ℕ → List (List ℕ) → List ℕ = session n room (t .memory) (t .held) (t .store) (t .report) in
+  unfoldable pub session : ℕ → ℕ → M → Replay → List ℕ → Lent → List ℕ → List (List ℕ) → List ℕ
+  session zero room m held store lent left reads = []
+  session (suc n) room m held store lent left reads =
+      let t : Turned M = runs o (length left) room m held store lent left in
+      let on : List ℕ → List (List ℕ) → List ℕ = session n room (t .memory) (t .held) (t .store) (t .lent) in
       t .lines
       ++ (if t .ended then [] else if eqb (t .used) 0 then behind on (endOf o (t .memory) (t .held) (t .store) (length left)) left reads else on (drop (t .used) left) reads)
 
@@ -73,8 +73,8 @@ module _ {M : Type 0} (o : Observer M) where
   abbrev pub OfAll : Type 0
   OfAll =
       (n room : ℕ) (m : M) (reads : List (List ℕ)) → toldMost ≤ room → length (allOf reads) + length reads < n
-      → session n room m begins (replicate storeLeast 0) (replicate reportLeast 0) [] reads ≡ watching o m (allOf reads)
+      → session n room m begins (replicate storeLeast 0) (lending (replicate reportLeast 0) []) [] reads ≡ watching o m (allOf reads)
 
 -- 3. the beginning
 abbrev pub AtBeginning : Type 0
-AtBeginning = Shows begins (replicate storeLeast 0) (replicate reportLeast 0) trace.beginning
+AtBeginning = Shows begins (replicate storeLeast 0) (lending (replicate reportLeast 0) []) trace.beginning

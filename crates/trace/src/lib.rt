@@ -4,10 +4,11 @@ use trace_events::Replay;
 use trace_items::Happening;
 use trace_turns::Met;
 ghost use mathlib.Core.Path.{_≡_};
-ghost use mathlib.Core.List.{List};
+ghost use mathlib.Core.List.{List, []};
 ghost use Prim.Native.Nat.{ℕ, _*_, _≤_};
 ghost use lib.ListN.{length};
 ghost use Rattle.octets.specs.Splice.{Wrote};
+ghost use Rattle.rules.specs.Calls.{lending};
 ghost use Rattle.rules.specs.Lines.{counted};
 ghost use Rattle.trace_turns.specs.Turns.{Fits};
 ghost use Rattle.trace.specs.Watching.{observerOf, endedBy, eventBy, toldBy, countBy, stopsAt, OfTurn, turned, runs, endOf};
@@ -122,7 +123,7 @@ fn step(
     input: &[u8],
     out: &mut [u8],
 ) -> Progress
-    ensures { λ r. ⌜ OfTurn (turned (observerOf which) events held (now (store .entry)) (now (report .entry)) (now (input .entry))) (now (out .entry)) r (now (store .exit)) (now (report .exit)) (now (out .exit)) ⌝ }
+    ensures { λ r. ⌜ OfTurn (turned (observerOf which) events held (now (store .entry)) (lending (now (report .entry)) []) (now (input .entry))) (now (out .entry)) r (now (store .exit)) (lending (now (report .exit)) []) (now (out .exit)) ⌝ }
     ensures { λ r. ⌜ (r .used ≤ length (now (input .entry))) × (r .written ≤ 8192) ⌝ }
 {
     let places = held.table.places;
@@ -149,7 +150,7 @@ pub fn block(
     input: &[u8],
     out: &mut [u8],
 ) -> Progress
-    ensures { λ r. ⌜ OfTurn (runs (observerOf which) (length (now (input .entry))) (length (now (out .entry))) first held (now (store .entry)) (now (report .entry)) (now (input .entry))) (now (out .entry)) r (now (store .exit)) (now (report .exit)) (now (out .exit)) ⌝ }
+    ensures { λ r. ⌜ OfTurn (runs (observerOf which) (length (now (input .entry))) (length (now (out .entry))) first held (now (store .entry)) (lending (now (report .entry)) []) (now (input .entry))) (now (out .entry)) r (now (store .exit)) (lending (now (report .exit)) []) (now (out .exit)) ⌝ }
     ensures { λ r. ⌜ (r .used ≤ length (now (input .entry))) × (r .written ≤ length (now (out .entry))) ⌝ }
 {
     let mut replay = held;

@@ -6,8 +6,8 @@ use lib.Dec.{ltb}
 use lib.ListN.{take}
 use Rattle.octets.specs.Splice.{splice}
 use Rattle.rules.specs.General.{if_then_else_}
-use Rattle.rules.specs.Calls.{stateOf, Outcome, step}
-use Rattle.rules.specs.Trace.{Event, callOf, reportAfter}
+use Rattle.rules.specs.Calls.{stateOf, Lent, Outcome, step}
+use Rattle.rules.specs.Trace.{Event, callOf, lentAfter}
 use Rattle.rules.specs.Trace as trace
 use Rattle.rules.specs.Listing.{decisionIn}
 use Rattle.rules.specs.declared.Opened.{Opened}
@@ -20,10 +20,10 @@ use Rattle.trace_events.specs.declared.Replay.{Replay}
 abbrev pub registryOf : Replay → List ℕ
 registryOf held = take (held .length) (held .registry)
 
--- the rule's replay that the code holds, with the store and the report area
-abbrev pub replayOf : Replay → List ℕ → List ℕ → trace.Replay
-replayOf held store report =
-    record { registry = registryOf held; begun = held .begun; state = stateOf (held .table) store; report = report }
+-- the rule's replay that the code holds, with the store and the other lent areas
+abbrev pub replayOf : Replay → List ℕ → Lent → trace.Replay
+replayOf held store lent =
+    record { registry = registryOf held; begun = held .begun; state = stateOf (held .table) store; lent = lent }
 
 -- the answers of calls that decide nothing
 abbrev pub answerOpened : Opened → Received
@@ -33,17 +33,17 @@ abbrev pub answerSwept : Swept → Received
 answerSwept o = record { table = o .table; decision = Refused; refusal = o .refusal; records = o .records }
 
 -- what an event does is the rules' own step
-abbrev pub stepOf : Replay → List ℕ → List ℕ → Event → Outcome
-stepOf held store report e = let r : trace.Replay = replayOf held store report in step (r .state) (callOf r e)
+abbrev pub stepOf : Replay → List ℕ → Lent → Event → Outcome
+stepOf held store lent e = let r : trace.Replay = replayOf held store lent in step (r .state) (callOf r e)
 
 -- what the code answers of an outcome
 abbrev pub answerOf : Outcome → Received
 answerOf o = record { table = o .state .table; decision = decisionIn (o .answer .decided); refusal = o .answer .refusal; records = o .answer .records }
 
-pub record OfEvent (held : Replay) (store report : List ℕ) (e : Event) (answer : Received) (store′ report′ : List ℕ) : Type 0 where
-  pub answered : answer ≡ answerOf (stepOf held store report e)
-  pub stored : store′ ≡ stepOf held store report e .state .store
-  pub reported : report′ ≡ reportAfter (replayOf held store report) e (stepOf held store report e .answer)
+pub record OfEvent (held : Replay) (store : List ℕ) (lent : Lent) (e : Event) (answer : Received) (store′ : List ℕ) (lent′ : Lent) : Type 0 where
+  pub answered : answer ≡ answerOf (stepOf held store lent e)
+  pub stored : store′ ≡ stepOf held store lent e .state .store
+  pub lends : lent′ ≡ lentAfter (replayOf held store lent) e (stepOf held store lent e .answer)
 
 -- a registry record is kept, unless nine are: with nine, an open is refused as with more
 abbrev pub keeping : Replay → ℕ → List ℕ → Replay

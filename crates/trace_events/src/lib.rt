@@ -5,8 +5,10 @@ use rules::Swept;
 use rules::Table;
 use trace_items::Event;
 ghost use mathlib.Core.Path.{_≡_};
+ghost use mathlib.Core.List.{[]};
 ghost use lib.ListN.{take, drop};
 ghost use Rattle.rules.specs.Opening.{opening};
+ghost use Rattle.rules.specs.Calls.{lending};
 ghost use Rattle.rules.specs.Promises.{OfSegment};
 ghost use Rattle.trace_items.specs.Reading.{eventMeant};
 ghost use Rattle.trace_events.specs.Events.{registryOf, answerOpened, answerSwept, OfEvent, keeping};
@@ -64,7 +66,7 @@ fn swept(s: Swept) -> Received
 
 // An event, by its call.
 pub fn happen(held: Replay, store: &mut [u8], report: &mut [u8], e: Event, body: &[u8]) -> Received
-    ensures { λ r. ⌜ OfEvent held (now (store .entry)) (now (report .entry)) (eventMeant e (now (body .entry))) r (now (store .exit)) (now (report .exit)) ⌝ }
+    ensures { λ r. ⌜ OfEvent held (now (store .entry)) (lending (now (report .entry)) []) (eventMeant e (now (body .entry))) r (now (store .exit)) (lending (now (report .exit)) []) ⌝ }
 {
     let table = held.table;
     match e {

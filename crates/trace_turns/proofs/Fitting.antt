@@ -13,8 +13,8 @@ use Rattle.rules.specs.Refusals.{accepted}
 use Rattle.rules.specs.Records.{recordLength, recordsOctets}
 use Rattle.rules.specs.Receiving.{effectOf, Reception, receivedAt}
 use Rattle.rules.specs.Sweep.{Sweeping, sweep, lossOf, reportLeast, clockChecks, releaseChecks}
-use Rattle.rules.specs.Calls.{step}
-use Rattle.rules.specs.Trace.{Event, Opening, Segment, Clock, Release, reportAfter}
+use Rattle.rules.specs.Calls.{Lent, step}
+use Rattle.rules.specs.Trace.{Event, Opening, Segment, Clock, Release, lentAfter}
 use Rattle.rules.specs.declared.Key.{Key}
 use Rattle.rules.specs.declared.Place.{Place}
 use Rattle.rules.specs.declared.Table.{Table}
@@ -76,30 +76,30 @@ release-room t report e = ltb-false _ _ (not-true _ ((simp and-eq-true-iff at e)
 none-fits : (report : List ℕ) → Whole 0 report
 none-fits report = (omega arith, omega arith)
 
-event-fits : (held : Replay) (store report : List ℕ) (e : Event) → length (held .table .places) ≡ placeCount
-    → Whole (stepOf held store report e .answer .records) (reportAfter (replayOf held store report) e (stepOf held store report e .answer))
+event-fits : (held : Replay) (store : List ℕ) (lent : Lent) (e : Event) → length (held .table .places) ≡ placeCount
+    → Whole (stepOf held store lent e .answer .records) (lentAfter (replayOf held store lent) e (stepOf held store lent e .answer) .report)
 unfolding step
-event-fits held store report (Opening timer time) n = none-fits report
-event-fits held store report (Segment association s) n =
-    segment-by (λ (o : Reception). Whole (o .answer .records) (o .report)) (held .table) store report association s
+event-fits held store lent (Opening timer time) n = none-fits (lent .report)
+event-fits held store lent (Segment association s) n =
+    segment-by (λ (o : Reception). Whole (o .answer .records) (o .report)) (held .table) store (lent .report) association s
     (λ e.
-    let room = arrived (held .table) store report association s e .reports in
-    let one : receivedAt (held .table) store report association s .answer .records ≤ 1 = effect-one _ (held .table) store _ _ _ _ _ _ in
+    let room = arrived (held .table) store (lent .report) association s e .reports in
+    let one : receivedAt (held .table) store (lent .report) association s .answer .records ≤ 1 = effect-one _ (held .table) store _ _ _ _ _ _ in
     (omega arith, rw splice-length (omega arith)))
-    (λ e. none-fits report)
-event-fits held store report (Clock time) n =
-    clock-by (λ (o : Sweeping). Whole (o .answer .records) (o .report)) (held .table) report time
-    (λ e. sweep-fits _ 6 time (held .table) report n (clock-room (held .table) report time e))
-    (λ e. none-fits report)
-event-fits held store report (Release association) n =
-    release-by (λ (o : Sweeping). Whole (o .answer .records) (o .report)) (held .table) report association
-    (λ e. sweep-fits _ 7 (held .table .clock) (held .table) report n (release-room (held .table) report e))
-    (λ e. none-fits report)
+    (λ e. none-fits (lent .report))
+event-fits held store lent (Clock time) n =
+    clock-by (λ (o : Sweeping). Whole (o .answer .records) (o .report)) (held .table) (lent .report) time
+    (λ e. sweep-fits _ 6 time (held .table) (lent .report) n (clock-room (held .table) (lent .report) time e))
+    (λ e. none-fits (lent .report))
+event-fits held store lent (Release association) n =
+    release-by (λ (o : Sweeping). Whole (o .answer .records) (o .report)) (held .table) (lent .report) association
+    (λ e. sweep-fits _ 7 (held .table .clock) (held .table) (lent .report) n (release-room (held .table) (lent .report) e))
+    (λ e. none-fits (lent .report))
 
 -- what owning a replay tells: its table has 16 places
 pub places-held : (held : Replay) → Is (row the-type) held (val the-type the-laws held ∷ []) → length (held .table .places) ≡ placeCount
 places-held held g = simp length-map at (g .1 .1 .1 .1 .0 .1 .1 .0 .1 .0 .1)
 
-pub answer-fits : (held : Replay) (store report : List ℕ) (e : Event) (answer : Received) (store′ report′ : List ℕ) → length (held .table .places) ≡ placeCount
-    → OfEvent held store report e answer store′ report′ → Whole (answer .records) report′
-answer-fits held store report e answer store′ report′ n p = rw (p .answered, p .reported) (event-fits held store report e n)
+pub answer-fits : (held : Replay) (store : List ℕ) (lent : Lent) (e : Event) (answer : Received) (store′ : List ℕ) (lent′ : Lent) → length (held .table .places) ≡ placeCount
+    → OfEvent held store lent e answer store′ lent′ → Whole (answer .records) (lent′ .report)
+answer-fits held store lent e answer store′ lent′ n p = rw (p .answered, p .lends) (event-fits held store lent e n)

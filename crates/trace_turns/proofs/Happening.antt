@@ -4,6 +4,7 @@ use mathlib.Core.Path.{_≡_, refl, ap, _∙_}
 use mathlib.Core.Bool.{Bool, _||_}
 use mathlib.Core.List.{List}
 use lib.Dec.{eqb}
+use Rattle.rules.specs.Calls.{Lent}
 use Rattle.rules.specs.Trace.{isOpening}
 use Rattle.rules.specs.declared.Received.{Received}
 use Rattle.trace_items.specs.Reading.{eventMeant, kindFor}
@@ -39,12 +40,12 @@ walkWith held a kind opens used =
 walk-as : (held : Replay) (a a′ : Received) (kind kind′ : ℕ) (b b′ : Bool) (used : ℕ) → a ≡ a′ → kind ≡ kind′ → b ≡ b′ → walkWith held a kind b used ≡ walkWith held a′ kind′ b′ used
 walk-as held a a′ kind kind′ b b′ used e f g = rw (e, f, g)
 
-pub event-walk : (held : Replay) (store report : List ℕ) (e : code.Event) (body : List ℕ) (kind used : ℕ) (answer : Received) (store′ report′ : List ℕ)
-    → kind ≡ kindFor e → OfEvent held store report (eventMeant e body) answer store′ report′
-    → OfWalk (happening held store report (eventMeant e body) used) (walkWith held answer kind (eqb kind 32) used) store′ report′
-event-walk held store report e body kind used answer store′ report′ k p =
+pub event-walk : (held : Replay) (store : List ℕ) (lent : Lent) (e : code.Event) (body : List ℕ) (kind used : ℕ) (answer : Received) (store′ : List ℕ) (lent′ : Lent)
+    → kind ≡ kindFor e → OfEvent held store lent (eventMeant e body) answer store′ lent′
+    → OfWalk (happening held store lent (eventMeant e body) used) (walkWith held answer kind (eqb kind 32) used) store′ lent′
+event-walk held store lent e body kind used answer store′ lent′ k p =
     record {
-      answered = walk-as held answer (answerOf (stepOf held store report (eventMeant e body))) _ _ _ _ used (p .answered) (k ∙ kind-is e body) (ap (λ (x : ℕ). eqb x 32) k ∙ opening-is e body);
+      answered = walk-as held answer (answerOf (stepOf held store lent (eventMeant e body))) _ _ _ _ used (p .answered) (k ∙ kind-is e body) (ap (λ (x : ℕ). eqb x 32) k ∙ opening-is e body);
       stored = p .stored;
-      reported = p .reported;
+      lends = p .lends;
     }

@@ -4,6 +4,7 @@ use mathlib.Core.Path.{_≡_, refl, ap}
 use mathlib.Core.Bool.{Bool, true, false}
 use mathlib.Core.List.{List}
 use Rattle.rules.specs.General.{if_then_else_}
+use Rattle.rules.specs.Calls.{Lent}
 use Rattle.trace_events.specs.Events.{keeping}
 use Rattle.trace_events.specs.declared.Replay.{Replay}
 use Rattle.trace_turns.specs.Turns.{OfWalk, Fits, Registering, still, stopping, registering, registerOf}
@@ -24,13 +25,13 @@ registry-kept held kind body replay e k = go (held .begun) e
 
 -- what the code answers of it is the walk's
 pub registry-walk : (held : Replay) (kind : ℕ) (body : List ℕ) (answer : Walk) → answer ≡ registerOf held kind body
-    → (store report : List ℕ) → OfWalk (registering held store report kind body) answer store report
-registry-walk held kind body answer a store report = go (held .begun) a
+    → (store : List ℕ) (lent : Lent) → OfWalk (registering held store lent kind body) answer store lent
+registry-walk held kind body answer a store lent = go (held .begun) a
   where
     go : (b : Bool) → answer ≡ (if b then still held met.Stops else keptWalk (keeping held kind body))
-        → OfWalk (if b then stopping held store report else record { front = Registering; held = keeping held kind body; store = store; report = report; used = 3 }) answer store report
-    go true e = record { answered = e; stored = refl; reported = refl }
-    go false e = record { answered = e; stored = refl; reported = refl }
+        → OfWalk (if b then stopping held store lent else record { front = Registering; held = keeping held kind body; store = store; lent = lent; used = 3 }) answer store lent
+    go true e = record { answered = e; stored = refl; lends = refl }
+    go false e = record { answered = e; stored = refl; lends = refl }
 
 pub registry-fits : (held : Replay) (kind : ℕ) (body : List ℕ) (answer : Walk) → answer ≡ registerOf held kind body → (report : List ℕ) → Fits (answer .met) report
 registry-fits held kind body answer a report = rw a (go (held .begun))

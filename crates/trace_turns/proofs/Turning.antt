@@ -8,6 +8,7 @@ use borrow.Author.Tests.{lt-ltb, le-ltb}
 use lib.ListN.{length, take, drop, getD, length-drop}
 use lib.Seq.{length-take-le}
 use Rattle.rules.specs.General.{if_then_else_}
+use Rattle.rules.specs.Calls.{Lent}
 use Rattle.rules.specs.Trace.{isKnown, bodyLength, itemOf}
 use Rattle.trace_items.specs.Reading.{bodyOf}
 use Rattle.trace_items.specs.declared.Body.the-variants.{Of, Unknown}
@@ -27,28 +28,28 @@ unknown-is : (b : Bool) (n : ℕ) → (if b then Of n else Unknown) ≡ Unknown 
 unknown-is true n e = cc
 unknown-is false n e = refl
 
-module _ (held : Replay) (store report : List ℕ) where
+module _ (held : Replay) (store : List ℕ) (lent : Lent) where
   -- nothing is done and nothing is used
-  pub as-still : (front : Front) (answer : Walk) → answer ≡ still held (metOf front) → OfWalk (staying front held store report) answer store report
-  as-still front answer a = record { answered = a; stored = refl; reported = refl }
+  pub as-still : (front : Front) (answer : Walk) → answer ≡ still held (metOf front) → OfWalk (staying front held store lent) answer store lent
+  as-still front answer a = record { answered = a; stored = refl; lends = refl }
 
-  pub walked-none : (input : List ℕ) → length input ≡ 0 → walked held store report input ≡ waiting held store report
+  pub walked-none : (input : List ℕ) → length input ≡ 0 → walked held store lent input ≡ waiting held store lent
   unfolding walked
   walked-none [] e = refl
   walked-none (kind ∷ l) e = let z : ⊥ = omega arith in absurd z
 
-  pub walked-unknown : (input : List ℕ) → (length input ≡ 0 → ⊥) → bodyOf (getD input 0 0) ≡ Unknown → walked held store report input ≡ stopping held store report
+  pub walked-unknown : (input : List ℕ) → (length input ≡ 0 → ⊥) → bodyOf (getD input 0 0) ≡ Unknown → walked held store lent input ≡ stopping held store lent
   unfolding walked
   walked-unknown [] h e = absurd (h refl)
   walked-unknown (kind ∷ l) h e = simp (unknown-is (isKnown kind) (bodyLength kind) e)
 
-  pub walked-short : (input : List ℕ) (n : ℕ) → (length input ≡ 0 → ⊥) → bodyOf (getD input 0 0) ≡ Of n → length input - 1 < n → walked held store report input ≡ waiting held store report
+  pub walked-short : (input : List ℕ) (n : ℕ) → (length input ≡ 0 → ⊥) → bodyOf (getD input 0 0) ≡ Of n → length input - 1 < n → walked held store lent input ≡ waiting held store lent
   unfolding walked
   walked-short [] n there e h = absurd (there refl)
   walked-short (kind ∷ l) n there e h = let k = known-is kind n e in simp (k .0, lt-ltb (length l) (bodyLength kind) (omega arith))
 
   pub walked-known : (input : List ℕ) (n : ℕ) → (length input ≡ 0 → ⊥) → bodyOf (getD input 0 0) ≡ Of n → n ≤ length input - 1
-      → walked held store report input ≡ atItem held store report (itemOf (getD input 0 0) (take n (drop 1 input))) (1 + bodyLength (getD input 0 0))
+      → walked held store lent input ≡ atItem held store lent (itemOf (getD input 0 0) (take n (drop 1 input))) (1 + bodyLength (getD input 0 0))
   unfolding walked
   walked-known [] n there e h = absurd (there refl)
   walked-known (kind ∷ l) n there e h = let k = known-is kind n e in rw (k .1) (simp (k .0, le-ltb (length l) (bodyLength kind) (omega arith)))

@@ -8,8 +8,8 @@ use lib.ListN.{length, take}
 use Rattle.rules.specs.General.{if_then_else_}
 use Rattle.rules.specs.Numbers.{placeCount}
 use Rattle.rules.specs.Records.{recordLength}
-use Rattle.rules.specs.Calls.{Outcome}
-use Rattle.rules.specs.Trace.{Event, Opening, Segment, Clock, Release, Item, Registers, Happens, Stops, Sight, sightOf, isKnown, bodyLength, itemOf, isOpening, reportAfter}
+use Rattle.rules.specs.Calls.{Lent, Outcome}
+use Rattle.rules.specs.Trace.{Event, Opening, Segment, Clock, Release, Item, Registers, Happens, Stops, Sight, sightOf, isKnown, bodyLength, itemOf, isOpening, lentAfter}
 use Rattle.rules.specs.Listing.{decisionIn}
 use Rattle.trace_items.specs.declared.Happening.{Happening}
 use Rattle.trace_events.specs.Events.{replayOf, stepOf, keeping}
@@ -30,7 +30,7 @@ pub record Walked : Type 0 where
   pub front : Front
   pub held : Replay
   pub store : List ℕ
-  pub report : List ℕ
+  pub lent : Lent
   pub used : ℕ
 
 -- what the code says of an event: its kind, and its answer but for the table and the areas
@@ -50,10 +50,10 @@ metOf Registering = met.Registers
 metOf (Seeing s) = met.Happens (happeningOf (s .event) (s .outcome))
 
 -- a walk of the code
-pub record OfWalk (want : Walked) (answer : Walk) (store′ report′ : List ℕ) : Type 0 where
+pub record OfWalk (want : Walked) (answer : Walk) (store′ : List ℕ) (lent′ : Lent) : Type 0 where
   pub answered : answer ≡ record { replay = want .held; met = metOf (want .front); used = want .used }
   pub stored : store′ ≡ want .store
-  pub reported : report′ ≡ want .report
+  pub lends : lent′ ≡ want .lent
 
 -- the records that an event made are whole in the report area
 abbrev pub Fits : Met → List ℕ → Type 0
@@ -66,20 +66,20 @@ Fits (met.Happens h) report = (h .records ≤ placeCount) × (recordLength * h .
 abbrev pub still : Replay → Met → Walk
 still held m = record { replay = held; met = m; used = 0 }
 
-abbrev pub staying : Front → Replay → List ℕ → List ℕ → Walked
-staying front held store report = record { front = front; held = held; store = store; report = report; used = 0 }
+abbrev pub staying : Front → Replay → List ℕ → Lent → Walked
+staying front held store lent = record { front = front; held = held; store = store; lent = lent; used = 0 }
 
-abbrev pub waiting : Replay → List ℕ → List ℕ → Walked
+abbrev pub waiting : Replay → List ℕ → Lent → Walked
 waiting = staying Waiting
 
-abbrev pub stopping : Replay → List ℕ → List ℕ → Walked
+abbrev pub stopping : Replay → List ℕ → Lent → Walked
 stopping = staying Stopping
 
 -- a registry record stops after the first open, and is kept before it
-abbrev pub registering : Replay → List ℕ → List ℕ → ℕ → List ℕ → Walked
-registering held store report kind body =
-    if held .begun then stopping held store report else
-    record { front = Registering; held = keeping held kind body; store = store; report = report; used = 3 }
+abbrev pub registering : Replay → List ℕ → Lent → ℕ → List ℕ → Walked
+registering held store lent kind body =
+    if held .begun then stopping held store lent else
+    record { front = Registering; held = keeping held kind body; store = store; lent = lent; used = 3 }
 
 abbrev pub registerOf : Replay → ℕ → List ℕ → Walk
 registerOf held kind body =
@@ -87,27 +87,27 @@ registerOf held kind body =
     record { replay = keeping held kind body; met = met.Registers; used = 3 }
 
 -- an event, and what is held after its step
-abbrev pub happening : Replay → List ℕ → List ℕ → Event → ℕ → Walked
-happening held store report e used =
-    let o : Outcome = stepOf held store report e in
+abbrev pub happening : Replay → List ℕ → Lent → Event → ℕ → Walked
+happening held store lent e used =
+    let o : Outcome = stepOf held store lent e in
     record {
-      front = Seeing (sightOf (replayOf held store report) e);
+      front = Seeing (sightOf (replayOf held store lent) e);
       held = record { registry = held .registry; length = held .length; table = o .state .table; begun = held .begun || isOpening e };
       store = o .state .store;
-      report = reportAfter (replayOf held store report) e (o .answer);
+      lent = lentAfter (replayOf held store lent) e (o .answer);
       used = used;
     }
 
-abbrev pub atItem : Replay → List ℕ → List ℕ → Item → ℕ → Walked
-atItem held store report (Registers []) used = stopping held store report
-atItem held store report (Registers (kind ∷ body)) used = registering held store report kind body
-atItem held store report (Happens e) used = happening held store report e used
-atItem held store report Stops used = stopping held store report
+abbrev pub atItem : Replay → List ℕ → Lent → Item → ℕ → Walked
+atItem held store lent (Registers []) used = stopping held store lent
+atItem held store lent (Registers (kind ∷ body)) used = registering held store lent kind body
+atItem held store lent (Happens e) used = happening held store lent e used
+atItem held store lent Stops used = stopping held store lent
 
 -- the record at the front; what is no whole record waits for more
-unfoldable pub walked : Replay → List ℕ → List ℕ → List ℕ → Walked
-walked held store report [] = waiting held store report
-walked held store report (kind ∷ l) =
-    if not (isKnown kind) then stopping held store report else
-    if ltb (length l) (bodyLength kind) then waiting held store report else
-    atItem held store report (itemOf kind (take (bodyLength kind) l)) (1 + bodyLength kind)
+unfoldable pub walked : Replay → List ℕ → Lent → List ℕ → Walked
+walked held store lent [] = waiting held store lent
+walked held store lent (kind ∷ l) =
+    if not (isKnown kind) then stopping held store lent else
+    if ltb (length l) (bodyLength kind) then waiting held store lent else
+    atItem held store lent (itemOf kind (take (bodyLength kind) l)) (1 + bodyLength kind)

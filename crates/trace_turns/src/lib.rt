@@ -6,9 +6,11 @@ use trace_items::Happening;
 use trace_items::Item;
 ghost use mathlib.Core.Path.{_≡_};
 ghost use mathlib.Core.Bool.{true, false};
+ghost use mathlib.Core.List.{[]};
 ghost use Prim.Native.Nat.{_+_, _≤_};
 ghost use lib.ListN.{length, replicate};
 ghost use Rattle.rules.specs.Opening.{unopened};
+ghost use Rattle.rules.specs.Calls.{lending};
 ghost use Rattle.rules.specs.Trace.{isKnown, bodyLength, itemOf};
 ghost use Rattle.trace_items.specs.Reading.{eventMeant};
 ghost use Rattle.trace_turns.specs.Turns.{OfWalk, Fits, still, registering, registerOf, happening, atItem, walked};
@@ -57,7 +59,7 @@ fn registers(held: Replay, kind: u8, body: &[u8]) -> Walk
 // An event: its step.
 fn happens(held: Replay, store: &mut [u8], report: &mut [u8], e: Event, body: &[u8]) -> Walk
     requires { ⌜ length (now body) ≤ 258 ⌝ }
-    ensures { λ r. ⌜ OfWalk (happening held (now (store .entry)) (now (report .entry)) (eventMeant e (now (body .entry))) (1 + length (now (body .entry)))) r (now (store .exit)) (now (report .exit)) ⌝ }
+    ensures { λ r. ⌜ OfWalk (happening held (now (store .entry)) (lending (now (report .entry)) []) (eventMeant e (now (body .entry))) (1 + length (now (body .entry)))) r (now (store .exit)) (lending (now (report .exit)) []) ⌝ }
     ensures { λ r. ⌜ Fits (r .met) (now (report .exit)) ⌝ }
 {
     let kind = trace_items::kind_of(e);
@@ -86,7 +88,7 @@ fn happens(held: Replay, store: &mut [u8], report: &mut [u8], e: Event, body: &[
 // A record of a known kind.
 fn known(held: Replay, store: &mut [u8], report: &mut [u8], kind: u8, body: &[u8]) -> Walk
     requires { ⌜ (isKnown kind ≡ true) × (length (now body) ≡ bodyLength kind) ⌝ }
-    ensures { λ r. ⌜ OfWalk (atItem held (now (store .entry)) (now (report .entry)) (itemOf kind (now (body .entry))) (1 + bodyLength kind)) r (now (store .exit)) (now (report .exit)) ⌝ }
+    ensures { λ r. ⌜ OfWalk (atItem held (now (store .entry)) (lending (now (report .entry)) []) (itemOf kind (now (body .entry))) (1 + bodyLength kind)) r (now (store .exit)) (lending (now (report .exit)) []) ⌝ }
     ensures { λ r. ⌜ (r .used ≤ 1 + bodyLength kind) × Fits (r .met) (now (report .exit)) ⌝ }
 {
     let item = trace_items::item_of(kind, body);
@@ -98,7 +100,7 @@ fn known(held: Replay, store: &mut [u8], report: &mut [u8], kind: u8, body: &[u8
 
 // The record at the front of an input.
 pub fn turn(held: Replay, store: &mut [u8], report: &mut [u8], input: &[u8]) -> Walk
-    ensures { λ r. ⌜ OfWalk (walked held (now (store .entry)) (now (report .entry)) (now (input .entry))) r (now (store .exit)) (now (report .exit)) ⌝ }
+    ensures { λ r. ⌜ OfWalk (walked held (now (store .entry)) (lending (now (report .entry)) []) (now (input .entry))) r (now (store .exit)) (lending (now (report .exit)) []) ⌝ }
     ensures { λ r. ⌜ (r .used ≤ length (now (input .entry))) × Fits (r .met) (now (report .exit)) ⌝ }
 {
     if input.len() == 0 {

@@ -1,9 +1,11 @@
 -- The loop's invariant is Going: the turns that are left give the rest.
 use mathlib.Core.Path.{_≡_, refl, _∙_}
+use mathlib.Core.List.{[]}
 use Prim.Native.Nat.{_-_}
 use native.Mathlib.Omega.{arith}
 use borrow.Author.Needs.{needs}
 use lib.ListN.{length}
+use Rattle.rules.specs.Calls.{lending}
 use Rattle.trace.specs.Watching.{observerOf, runs}
 use Rattle.trace.proofs.Running.{Going, going-starts, going-full, used-within, written-within, same-out, going-over, less-left, going-on}
 use Rattle.trace.proofs.block.Statement.{statement}
@@ -13,7 +15,7 @@ abbrev Inv-loop : tie.InvT-loop
 Inv-loop which first store₀ report₀ input out₀ replay₀ events₀ used₀ written₀ store report out replay events used written =
     (length store ≡ length store₀)
     × (length report ≡ length report₀)
-    × Going (observerOf which) (runs (observerOf which) (length input) (length out₀) events₀ replay₀ store₀ report₀ input) input out₀ store report out replay events used written
+    × Going (observerOf which) (runs (observerOf which) (length input) (length out₀) events₀ replay₀ store₀ (lending report₀ []) input) input out₀ store (lending report []) out replay events used written
 
 abbrev μ-loop : tie.MeasureT-loop
 μ-loop which first store₀ report₀ input out₀ replay₀ events₀ used₀ written₀ store report out replay events used written = length input - used

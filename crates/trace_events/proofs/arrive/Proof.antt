@@ -1,3 +1,4 @@
+use Rattle.trace_events.proofs.Calling.{of-part}
 use borrow.Author.Needs.{needs}
 use Rattle.trace_events.proofs.arrive.Statement.{statement}
 use Rattle.trace_events.proofs.arrive.Tie as tie
@@ -15,7 +16,9 @@ same-length-2 : tie.Need-same-length-2
 same-length-2 c = search needs
 
 returns : tie.Need-returns
-returns c = let s = c .before .before .before .before in rw (← s .before .before .before .part .ensures) (s .segment .ensures)
+returns c =
+    let s = c .before .before .before .before in
+    of-part _ _ _ _ _ _ _ _ _ (s .before .before .before .part .ensures) (s .segment .ensures)
 
 pub arrive-spec : {M : Type 1} → statement M
 arrive-spec =

@@ -29,7 +29,7 @@ returns c =
     let t = c .before in
     let s = t .before .before .before .before .before .before in
     let e = item-as _ _ (s .args .kind) (s .args .body .now) (t .enum-told .given .1) (t .before .before .item-of .ensures) in
-    (rw (← e) (registry-walk (s .args .held) (s .args .kind) (s .args .body .now) _ (c .registers .ensures .0) (now (s .args .store)) (now (s .args .report))), (omega (arith, registers-two _ _ e, c .registers .ensures .1), registry-fits (s .args .held) (s .args .kind) (s .args .body .now) _ (c .registers .ensures .0) _))
+    (rw (← e) (registry-walk (s .args .held) (s .args .kind) (s .args .body .now) _ (c .registers .ensures .0) (now (s .args .store)) _), (omega (arith, registers-two _ _ e, c .registers .ensures .1), registry-fits (s .args .held) (s .args .kind) (s .args .body .now) _ (c .registers .ensures .0) _))
 
 same-length : tie.Need-same-length
 same-length c = search needs

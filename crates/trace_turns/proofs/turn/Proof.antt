@@ -16,7 +16,7 @@ stays-requires c κs = search needs
 returns : tie.Need-returns
 returns c =
     let s = c .before .before .before .before .before in
-    (rw (walked-none (s .args .held) (now (s .args .store)) (now (s .args .report)) (now (s .args .input)) (c .before .if1 .taken)) (as-still _ _ _ Waiting _ (c .stays .ensures)), rw (c .stays .ensures) (omega arith, tt))
+    (rw (walked-none (s .args .held) (now (s .args .store)) _ (now (s .args .input)) (c .before .if1 .taken)) (as-still _ _ _ Waiting _ (c .stays .ensures)), rw (c .stays .ensures) (omega arith, tt))
 
 shared-slice-read-kind : tie.Need-shared-slice-read-kind
 shared-slice-read-kind c = search needs
@@ -44,7 +44,7 @@ returns-2 c =
     let b = c .before .before .before in
     let t = b .before .before .before .before in
     let s = t .before .before .before .before in
-    (rw (walked-short (s .args .held) (now (s .args .store)) (now (s .args .report)) (now (s .args .input)) _ (t .if1 .left) (sym (b .before .before .body-length .ensures) ∙ b .body .given .1) (c .before .if2 .taken)) (as-still _ _ _ Waiting _ (c .stays3 .ensures)), rw (c .stays3 .ensures) (omega arith, tt))
+    (rw (walked-short (s .args .held) (now (s .args .store)) _ (now (s .args .input)) _ (t .if1 .left) (sym (b .before .before .body-length .ensures) ∙ b .body .given .1) (c .before .if2 .taken)) (as-still _ _ _ Waiting _ (c .stays3 .ensures)), rw (c .stays3 .ensures) (omega arith, tt))
 
 add-end : tie.Need-add-end
 add-end c = search needs
@@ -71,7 +71,7 @@ returns-3 c =
     let b = c .before in
     let t = b .before .before .before .before in
     let s = t .before .before .before .before in
-    (rw (walked-unknown (s .args .held) (now (s .args .store)) (now (s .args .report)) (now (s .args .input)) (t .if1 .left) (sym (b .before .before .body-length .ensures) ∙ b .enum-told .given .1)) (as-still _ _ _ Stopping _ (c .stays2 .ensures)), rw (c .stays2 .ensures) (omega arith, tt))
+    (rw (walked-unknown (s .args .held) (now (s .args .store)) _ (now (s .args .input)) (t .if1 .left) (sym (b .before .before .body-length .ensures) ∙ b .enum-told .given .1)) (as-still _ _ _ Stopping _ (c .stays2 .ensures)), rw (c .stays2 .ensures) (omega arith, tt))
 
 same-length : tie.Need-same-length
 same-length c = search needs
@@ -89,7 +89,7 @@ returns-4 c =
     let k = known-is (getD (s .args .input .now) 0 0) (b .body .given .0 .0) e in
     let m : 1 + b .body .given .0 .0 - 1 ≡ b .body .given .0 .0 = omega arith in
     let l = p .before .before .before .before .if2 .left in
-    (rw (walked-known (s .args .held) (now (s .args .store)) (now (s .args .report)) (now (s .args .input)) (b .body .given .0 .0) (t .if1 .left) e l) (rw m at (p .known .ensures .0)), (omega (arith, p .known .ensures .1 .0, k .1, t .if1 .left, l), p .known .ensures .1 .1))
+    (rw (walked-known (s .args .held) (now (s .args .store)) _ (now (s .args .input)) (b .body .given .0 .0) (t .if1 .left) e l) (rw m at (p .known .ensures .0)), (omega (arith, p .known .ensures .1 .0, k .1, t .if1 .left, l), p .known .ensures .1 .1))
 
 pub turn-spec : {M : Type 1} → statement M
 turn-spec =
