@@ -9,13 +9,7 @@ use borrow.Author.Tests.{lt-ltb, le-ltb}
 use lib.ListN.{length, take, drop, set, replicate, length-drop, length-set}
 use lib.Seq.{take-all, drop-cons, getD-set-same, drop-set-lt, append-snoc}
 use Rattle.rules.specs.Lines.{digitsOf, decimal}
-
--- what is left gives all: the digits of the rest, to index i, and then those that are made
-pub record Left (all digits : List ℕ) (rest i : ℕ) : Type 0 where
-  pub is : all ≡ digitsOf (i + 1) rest ++ drop (i + 1) digits
-  pub fits : rest < 10 ^ (i + 1)
-  pub there : i ≤ 19
-  pub twenty : length digits ≡ 20
+use Rattle.trace_lines.specs.Digits.{Left}
 
 pub left-starts : (x : ℕ) → x < 2 ^ 64 → Left (decimal x) (replicate 20 0) x 19
 left-starts x h = record { is = sym (append-nil (decimal x)); fits = omega arith; there = omega arith; twenty = refl }
@@ -62,3 +56,22 @@ module _ (all digits : List ℕ) (rest i : ℕ) (inv : Left all digits rest i) w
       let made : List ℕ = set digits i (48 + rest % 10) in
       let n : length (drop i made) ≡ 20 - i = length-drop i made ∙ rw (length-set digits i (48 + rest % 10), inv .twenty) in
       (last h ∙ sym (take-all (20 - i) (drop i made) (omega arith)), ap length (last h) ∙ n)
+
+-- two digits at once
+module _ (all digits : List ℕ) (rest i : ℕ) (inv : Left all digits rest i) where
+  tens : rest / 10 % 10 ≡ rest % 100 / 10
+  tens = omega arith
+
+  ones : rest % 10 ≡ rest % 100 % 10
+  ones = omega arith
+
+  pub two-some : 100 ≤ rest → 2 ≤ i
+  two-some h =
+      let a = left-some all digits rest i inv (omega arith) in
+      let b = left-some all (set digits i (48 + rest % 10)) (rest / 10) (i - 1) (left-goes all digits rest i inv (omega arith)) (omega arith) in
+      omega arith
+
+  pub two-go : 100 ≤ rest → Left all (set (set digits i (48 + rest % 100 % 10)) (i - 1) (48 + rest % 100 / 10)) (rest / 100) (i - 1 - 1)
+  two-go h =
+      let q : rest / 10 / 10 ≡ rest / 100 = omega arith in
+      rw (q, tens, ones) at (left-goes all (set digits i (48 + rest % 10)) (rest / 10) (i - 1) (left-goes all digits rest i inv (omega arith)) (omega arith))

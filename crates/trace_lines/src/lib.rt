@@ -1,11 +1,12 @@
 // A line of the replay program, written into a lent area; and the writers of numbers and words that other lines use too.
 ghost use mathlib.Core.Path.{_≡_};
 ghost use mathlib.Core.List.{[], _∷_};
-ghost use Prim.Native.Nat.{_+_, _*_, _≤_};
+ghost use Prim.Native.Nat.{ℕ, _+_, _*_, _≤_, _<_};
 ghost use lib.ListN.{length, take, drop};
 ghost use Rattle.octets.specs.Splice.{Wrote};
 ghost use Rattle.rules.specs.Records.{recordFrom, recordsFrom};
 ghost use Rattle.rules.specs.Lines.{decimal, field, octetsOf, stopIf};
+ghost use Rattle.trace_lines.specs.Digits.{Left};
 ghost use Rattle.trace_lines.specs.Printing.{nameFor, fieldsFor, lineFor};
 
 // One octet.
@@ -20,7 +21,25 @@ pub fn put_octet(out: &mut [u8], at: usize, x: u8) -> usize
     at + 1
 }
 
-// A number of several digits: they are made from the last to the first.
+// The last digit or two of a number under 100, before those that are made from index i + 1 on; and all of them written.
+fn put_last(out: &mut [u8], at: usize, made: [u8; 20], rest: u64, i: usize) -> usize
+    requires { ⌜ (at ≤ 65536) × ((rest < 100) × ((i ≤ 19) × (10 ≤ rest → 1 ≤ i))) ⌝ }
+    ensures { λ r. ⌜ ((x : ℕ) → Left (decimal x) made rest i → Wrote (now (out .entry)) at (decimal x) (now (out .exit)) r) ⌝ }
+    ensures { λ r. ⌜ r ≤ at + 20 ⌝ }
+{
+    let mut digits = made;
+    digits[i] = 48 + (rest % 10) as u8;
+    if rest < 10 {
+        octets::put_at(out, at, &digits[i..]);
+        return at + (20 - i);
+    }
+    let first = i - 1;
+    digits[first] = 48 + (rest / 10 % 10) as u8;
+    octets::put_at(out, at, &digits[first..]);
+    at + (20 - first)
+}
+
+// A number of several digits: they are made from the last to the first, two at a time.
 fn put_digits(out: &mut [u8], at: usize, x: u64) -> usize
     requires { ⌜ at ≤ 65536 ⌝ }
     ensures { λ r. ⌜ Wrote (now (out .entry)) at (decimal x) (now (out .exit)) r ⌝ }
@@ -29,14 +48,15 @@ fn put_digits(out: &mut [u8], at: usize, x: u64) -> usize
     let mut digits = [0u8; 20];
     let mut rest = x;
     let mut i = 19;
-    while 10 <= rest {
-        digits[i] = 48 + (rest % 10) as u8;
-        rest /= 10;
-        i -= 1;
+    while 100 <= rest {
+        let two = rest % 100;
+        let before = i - 1;
+        digits[i] = 48 + (two % 10) as u8;
+        digits[before] = 48 + (two / 10) as u8;
+        rest /= 100;
+        i = before - 1;
     }
-    digits[i] = 48 + (rest % 10) as u8;
-    octets::put_at(out, at, &digits[i..]);
-    at + (20 - i)
+    put_last(out, at, digits, rest, i)
 }
 
 // A number in decimal. Most numbers of a line have one digit.

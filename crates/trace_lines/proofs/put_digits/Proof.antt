@@ -1,12 +1,9 @@
--- The loop makes the digits from the last on; what is left of the number gives the others.
-use Prim.Native.Nat.{ℕ, _+_, _%_}
-use mathlib.Core.Path.{sym, ap, _∙_}
-use lib.ListN.{length-set}
-use Rattle.octets.specs.Splice.{splice}
+-- The loop makes the digits from the last on, two at a time; what is left of the number gives the others.
 use native.Mathlib.Omega.{arith}
 use borrow.Author.Needs.{needs}
 use Rattle.rules.specs.Lines.{decimal}
-use Rattle.trace_lines.proofs.Digits.{Left, left-starts, left-some, left-goes, left-ends}
+use Rattle.trace_lines.specs.Digits.{Left}
+use Rattle.trace_lines.proofs.Digits.{left-starts, left-some, two-some, two-go}
 use Rattle.trace_lines.proofs.put_digits.Statement.{statement}
 use Rattle.trace_lines.proofs.put_digits.Tie as tie
 
@@ -19,6 +16,9 @@ abbrev μ-loop : tie.MeasureT-loop
 loop-holds : tie.Need-loop-holds Inv-loop μ-loop
 loop-holds c = left-starts _ (omega arith)
 
+sub-before : tie.Need-sub-before Inv-loop μ-loop
+sub-before c = omega (arith, two-some _ _ _ _ (c .before .loop .inv) (c .loop-test .taken))
+
 cast-digits : tie.Need-cast-digits Inv-loop μ-loop
 cast-digits c = omega arith
 
@@ -27,15 +27,6 @@ add-digits c = omega arith
 
 array-write-digits : tie.Need-array-write-digits Inv-loop μ-loop
 array-write-digits c = omega arith
-
-sub-i : tie.Need-sub-i Inv-loop μ-loop
-sub-i c = left-some _ _ _ _ (c .before .loop .inv) (c .loop-test .taken)
-
-loop-less : tie.Need-loop-less Inv-loop μ-loop
-loop-less c = omega arith
-
-loop-again : tie.Need-loop-again Inv-loop μ-loop
-loop-again c = left-goes _ _ _ _ (c .before .loop .inv) (c .loop-test .taken)
 
 cast-digits-2 : tie.Need-cast-digits-2 Inv-loop μ-loop
 cast-digits-2 c = omega arith
@@ -46,34 +37,28 @@ add-digits-2 c = omega arith
 array-write-digits-2 : tie.Need-array-write-digits-2 Inv-loop μ-loop
 array-write-digits-2 c = omega arith
 
-sub-put-at : tie.Need-sub-put-at Inv-loop μ-loop
-sub-put-at c = search needs
+sub-i : tie.Need-sub-i Inv-loop μ-loop
+sub-i c = omega (arith, two-some _ _ _ _ (c .before .loop .inv) (c .loop-test .taken))
 
-part-put-at-start : tie.Need-part-put-at-start Inv-loop μ-loop
-part-put-at-start c = search needs
+loop-less : tie.Need-loop-less Inv-loop μ-loop
+loop-less c = omega arith
 
-part-put-at-end : tie.Need-part-put-at-end Inv-loop μ-loop
-part-put-at-end c =
-    let l = c .before .before .before .loop in
-    omega (arith, length-set (l .digits) (l .i) (48 + l .rest % 10))
+loop-again : tie.Need-loop-again Inv-loop μ-loop
+loop-again c = two-go _ _ _ _ (c .before .loop .inv) (c .loop-test .taken)
 
-put-at-requires : tie.Need-put-at-requires Inv-loop μ-loop
-put-at-requires c κs = search needs
-
-sub-result : tie.Need-sub-result Inv-loop μ-loop
-sub-result c = omega arith
-
-add-result : tie.Need-add-result Inv-loop μ-loop
-add-result c = omega arith
+put-last-requires : tie.Need-put-last-requires Inv-loop μ-loop
+put-last-requires c κs =
+    let l = c .before .before .loop in
+    (omega arith, (omega arith, (l .inv .there, λ h. left-some _ _ _ _ (l .inv) h)))
 
 same-length : tie.Need-same-length Inv-loop μ-loop
 same-length c = search needs
 
 returns : tie.Need-returns Inv-loop μ-loop
 returns c =
-    let s = c .before .before .before .before .before .before .before in
-    let e = left-ends _ (s .loop .digits) (s .loop .rest) (s .loop .i) (s .loop .inv) (c .before .before .before .before .before .before .loop-test .left) in
-    (record { place = ap (λ (n : ℕ). s .before .before .args .at + n) (sym (e .1)); stored = c .before .before .put-at .ensures ∙ ap (splice _ _) (sym (e .0)) }, omega arith)
+    let p = c .before .before in
+    let l = p .before .before .before in
+    (p .put-last .ensures .0 (l .before .before .args .x) (l .loop .inv), p .put-last .ensures .1)
 
 pub put-digits-spec : {M : Type 1} → statement M
 put-digits-spec =
@@ -82,20 +67,16 @@ put-digits-spec =
     Inv-loop
     μ-loop
     loop-holds
+    sub-before
     cast-digits
     add-digits
     array-write-digits
-    sub-i
-    loop-less
-    loop-again
     cast-digits-2
     add-digits-2
     array-write-digits-2
-    sub-put-at
-    part-put-at-start
-    part-put-at-end
-    put-at-requires
-    sub-result
-    add-result
+    sub-i
+    loop-less
+    loop-again
+    put-last-requires
     same-length
     returns)
