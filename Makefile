@@ -32,7 +32,7 @@ KIT = rattle-kit-5
 
 # folders too: a file that is gone is seen by its folder's time
 SOURCES := crates.txt include/egrynnol.h $(shell find crates)
-PROGRAMS = target/bin/replay target/bin/records target/bin/looped
+PROGRAMS = target/bin/replay target/bin/records target/bin/totals target/bin/looped
 LIBRARY = target/lib/libegrynnol.a
 # the shared object is linked by gcc, so only where gcc is for x86-64, as the library is
 SHARED := $(if $(filter x86_64,$(shell uname -m)),target/lib/$(SONAME))
@@ -81,7 +81,7 @@ test: | toolchain
 
 install: all
 	install -d $(BINDIR) $(LIBDIR)/pkgconfig $(INCLUDEDIR) $(MANDIR)/man1 $(MANDIR)/man3 $(MANDIR)/man5 $(LIBEXECDIR) $(SHAREDIR)/egrynnol_lib $(COMPLETIONDIR)
-	install -m 755 target/bin/replay target/bin/records $(LIBEXECDIR)
+	install -m 755 target/bin/replay target/bin/records target/bin/totals $(LIBEXECDIR)
 	install -m 755 tools/egrynnol $(BINDIR)/egrynnol
 	install -m 644 tools/egrynnol_lib/*.py $(SHAREDIR)/egrynnol_lib
 	install -m 644 tools/egrynnol.bash $(COMPLETIONDIR)/egrynnol
@@ -104,7 +104,7 @@ endif
 uninstall:
 	rm -f $(BINDIR)/egrynnol $(LIBDIR)/libegrynnol.a $(LIBDIR)/pkgconfig/egrynnol.pc $(INCLUDEDIR)/egrynnol.h
 	rm -f $(MANDIR)/man1/egrynnol.1 $(MANDIR)/man3/egrynnol.3 $(MANDIR)/man5/egrynnol-trace.5 $(COMPLETIONDIR)/egrynnol
-	rm -f $(LIBEXECDIR)/replay $(LIBEXECDIR)/records $(SHAREDIR)/egrynnol_lib/*.py
+	rm -f $(LIBEXECDIR)/replay $(LIBEXECDIR)/records $(LIBEXECDIR)/totals $(SHAREDIR)/egrynnol_lib/*.py
 	rmdir $(LIBEXECDIR) $(SHAREDIR)/egrynnol_lib $(SHAREDIR) 2>/dev/null || true
 	rm -f $(FUNCTIONS:%=$(MANDIR)/man3/%.3) $(LIBDIR)/$(SONAME) $(LIBDIR)/libegrynnol.so
 	rm -rf $(CMAKEDIR)

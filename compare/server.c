@@ -37,7 +37,7 @@ struct area {
 };
 
 /* An area for each argument, so that what it held last is most likely what it will hold next. */
-static struct area registry, store, report, parameter, origin, destination, data, area;
+static struct area summary, registry, store, report, parameter, origin, destination, data, area;
 
 /* Nothing more is written, so that no answer of a call that went wrong gets out. */
 static void fail(const char *why)
@@ -89,6 +89,15 @@ static uint8_t *lend(struct area *a)
     memcpy(a->before + GUARD + from, a->now + GUARD + from, count);
     a->length = length;
     return a->now + GUARD;
+}
+
+/* The same for the summary, which has one length. The octets lie as its numbers have to. */
+static egrynnol_summary *lend_summary(void)
+{
+    void *numbers = lend(&summary);
+    if (summary.length != sizeof(egrynnol_summary))
+        fail("the summary has another length");
+    return numbers;
 }
 
 /* Two stretches of STEP octets. The whole store is gone through after each call that is lent it, and
@@ -147,9 +156,11 @@ static void make_opening(void)
 {
     uint32_t timer = take_number(), clock = take_number();
     uint8_t *records = lend(&registry);
-    egrynnol_opened answer = egrynnol_opening(records, registry.length, timer, clock);
+    egrynnol_summary *rows = lend_summary();
+    egrynnol_opened answer = egrynnol_opening(rows, records, registry.length, timer, clock);
     give(&answer, sizeof answer);
     keep(&registry);
+    give_back(&summary);
 }
 
 static void make_segment(void)
@@ -158,11 +169,14 @@ static void make_segment(void)
     uint16_t association;
     take(&table, sizeof table);
     take(&association, sizeof association);
-    uint8_t *p = lend(&parameter), *s = lend(&store), *r = lend(&report);
+    uint8_t *p = lend(&parameter);
+    egrynnol_summary *rows = lend_summary();
+    uint8_t *s = lend(&store), *r = lend(&report);
     egrynnol_received answer =
-        egrynnol_segment(table, s, store.length, r, report.length, association, p, parameter.length);
+        egrynnol_segment(table, rows, s, store.length, r, report.length, association, p, parameter.length);
     give(&answer, sizeof answer);
     keep(&parameter);
+    give_back(&summary);
     give_back(&store);
     give_back(&report);
 }
@@ -172,9 +186,11 @@ static void make_clock(void)
     egrynnol_table table;
     take(&table, sizeof table);
     uint32_t time = take_number();
+    egrynnol_summary *rows = lend_summary();
     uint8_t *r = lend(&report);
-    egrynnol_swept answer = egrynnol_clock(table, r, report.length, time);
+    egrynnol_swept answer = egrynnol_clock(table, rows, r, report.length, time);
     give(&answer, sizeof answer);
+    give_back(&summary);
     give_back(&report);
 }
 
@@ -184,9 +200,11 @@ static void make_release(void)
     uint16_t association;
     take(&table, sizeof table);
     take(&association, sizeof association);
+    egrynnol_summary *rows = lend_summary();
     uint8_t *r = lend(&report);
-    egrynnol_swept answer = egrynnol_release(table, r, report.length, association);
+    egrynnol_swept answer = egrynnol_release(table, rows, r, report.length, association);
     give(&answer, sizeof answer);
+    give_back(&summary);
     give_back(&report);
 }
 
@@ -232,7 +250,8 @@ static void make(int call)
 
 int main(void)
 {
-    struct area *areas[] = {&registry, &store, &report, &parameter, &origin, &destination, &data, &area};
+    struct area *areas[] = {&summary, &registry, &store, &report, &parameter,
+                            &origin, &destination, &data, &area};
     for (size_t i = 0; i < sizeof areas / sizeof areas[0]; i++)
         fill(areas[i]);
     setvbuf(stdin, NULL, _IOFBF, BUFFER);

@@ -2,8 +2,9 @@
  * gateway.c - a small host of the Egrynnol library.
  *
  * It cuts a message into segments, receives them, takes the delivery, loses a
- * sequence by the timer and another by a release. It prints each step, checks
- * each answer, and ends with status 1 at the first that is not as expected.
+ * sequence by the timer and another by a release, and bills each association by
+ * the summary. It prints each step, checks each answer, and ends with status 1 at
+ * the first that is not as expected.
  *
  *   make && cc -Iinclude examples/gateway.c target/lib/libegrynnol.a -o target/gateway && target/gateway
  */
@@ -13,9 +14,10 @@
 
 #include "egrynnol.h"
 
-/* All that a gateway has to keep: the table, and the areas that it lends. */
+/* All that a gateway has to keep: the table, the summary beside it, and the areas that it lends. */
 static struct {
     egrynnol_table table;
+    egrynnol_summary summary;
     uint8_t store[EGRYNNOL_STORE];
     uint8_t report[EGRYNNOL_REPORT_SWEEP];
 } gate;
@@ -89,7 +91,7 @@ static int record_says(unsigned kind, unsigned cause, unsigned segments, size_t 
 static void open_gate(void)
 {
     static const uint8_t registry[] = {EGRYNNOL_KIND_1998, 0, 3, EGRYNNOL_KIND_2000, 0, 4};
-    egrynnol_opened opened = egrynnol_opening(registry, sizeof registry, 100, 0);
+    egrynnol_opened opened = egrynnol_opening(&gate.summary, registry, sizeof registry, 100, 0);
 
     check(opened.refusal == EGRYNNOL_GOOD, "opening is not refused");
     gate.table = opened.table;
@@ -119,11 +121,11 @@ static unsigned cut_message(parameter *segments)
     return sent.count;
 }
 
-/* Receives one parameter. The table goes on, whether refused or not. */
+/* Receives one parameter. The table goes on, whether refused or not; the summary is changed where it is. */
 static egrynnol_received receive(uint16_t association, const parameter *segment)
 {
     egrynnol_received received =
-        egrynnol_segment(gate.table, gate.store, sizeof gate.store, gate.report, sizeof gate.report,
+        egrynnol_segment(gate.table, &gate.summary, gate.store, sizeof gate.store, gate.report, sizeof gate.report,
                          association, segment->octets, segment->length);
 
     gate.table = received.table;
@@ -162,7 +164,7 @@ static void take(egrynnol_decision decision, const parameter *segment, const uin
 
 static unsigned tick(uint32_t now)
 {
-    egrynnol_swept swept = egrynnol_clock(gate.table, gate.report, sizeof gate.report, now);
+    egrynnol_swept swept = egrynnol_clock(gate.table, &gate.summary, gate.report, sizeof gate.report, now);
 
     check(swept.refusal == EGRYNNOL_GOOD, "the clock is not refused");
     gate.table = swept.table;
@@ -173,13 +175,57 @@ static unsigned tick(uint32_t now)
 
 static unsigned hang_up(uint16_t association)
 {
-    egrynnol_swept swept = egrynnol_release(gate.table, gate.report, sizeof gate.report, association);
+    egrynnol_swept swept =
+        egrynnol_release(gate.table, &gate.summary, gate.report, sizeof gate.report, association);
 
     check(swept.refusal == EGRYNNOL_GOOD, "the release is not refused");
     gate.table = swept.table;
     printf("release %u: %u lost\n", association, swept.records);
     print_records(swept.records);
     return swept.records;
+}
+
+/* ---- The bill ---- */
+
+/* For printf: a long has 64 bits here, the header asks for that. */
+static unsigned long total(uint64_t number)
+{
+    return (unsigned long)number;
+}
+
+/* One line of the bill: row i of the summary, which is what each column has at i. */
+static void print_row(size_t i)
+{
+    const egrynnol_summary *rows = &gate.summary;
+
+    printf("  row %u, association %lu: taken %lu segments, %lu octets; delivered %lu, %lu; lost %lu, %lu\n", (unsigned)i,
+           total(rows->association[i]), total(rows->taken_segments[i]), total(rows->taken_octets[i]),
+           total(rows->delivered_segments[i]), total(rows->delivered_octets[i]),
+           total(rows->lost_segments[i]), total(rows->lost_octets[i]));
+}
+
+/* Every row that is used, as the columns have it. Answers how many there are. */
+static unsigned print_bill(void)
+{
+    unsigned used = 0;
+    size_t i;
+
+    printf("bill:\n");
+    for (i = 0; i < EGRYNNOL_ROWS; i++) {
+        if (gate.summary.mark[i] == 0)
+            continue;
+        print_row(i);
+        used++;
+    }
+    return used;
+}
+
+/* What an association lost; nothing where no segment of it was taken. */
+static uint64_t octets_lost(uint16_t association)
+{
+    size_t i = egrynnol_row_of(&gate.summary, association);
+
+    return i < EGRYNNOL_ROWS ? gate.summary.lost_octets[i] : 0;
 }
 
 /* ---- The story ---- */
@@ -249,6 +295,24 @@ static void lost_by_release(const parameter *segments, unsigned count)
     check(hang_up(10) == 0, "the release of 10 loses nothing");
 }
 
+/* Who had a segment taken is on the bill: each row has what the steps above say, added up. */
+static void billed(void)
+{
+    static const uint16_t asked[] = {9, 10, 11};
+    const egrynnol_summary *rows = &gate.summary;
+    size_t k, i = egrynnol_row_of(rows, 9);
+
+    check(print_bill() == 2, "two associations are on the bill");
+    check(i == 0 && egrynnol_row_of(rows, 10) == 1, "rows go in the order of the first segments");
+    check(rows->taken_segments[i] == 6 && rows->taken_octets[i] == 63, "what 9 had taken");
+    check(rows->delivered_segments[i] == 4 && rows->delivered_octets[i] == 33, "what 9 had delivered");
+    check(rows->lost_segments[i] == 2 && rows->lost_octets[i] == 30, "what 9 had lost");
+    check(rows->taken_octets[1] == message_length && rows->delivered_octets[1] == message_length, "10 lost nothing");
+    check(egrynnol_row_of(rows, 11) == EGRYNNOL_ROWS, "11 has no row");
+    for (k = 0; k < sizeof asked / sizeof asked[0]; k++)
+        printf("lost by association %u: %lu octets\n", asked[k], total(octets_lost(asked[k])));
+}
+
 int main(void)
 {
     static parameter segments[EGRYNNOL_SEGMENTS];
@@ -263,6 +327,7 @@ int main(void)
     refused();
     lost_by_the_timer(segments);
     lost_by_release(segments, count);
+    billed();
     printf("all as expected\n");
     return 0;
 }

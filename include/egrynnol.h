@@ -4,9 +4,11 @@
  * Six calls: open a table, receive a segment, tick the clock, release an
  * association, take a delivery, cut data into segments. The library keeps no
  * state, allocates nothing and reads nothing but what it is handed. All it
- * knows is in the table, which the host holds and hands on from call to call.
+ * knows is in the table and in the summary, which has the totals of each
+ * association. The host holds both and hands them on from call to call.
  *
- * Structs go by value. A lent area is a pointer and its length in octets.
+ * Structs go by value, but for the summary, which is lent as a pointer with no
+ * length. A lent area is a pointer and its length in octets.
  * The calls are proved; the inline functions at the end of this file are not.
  * They are plain C over the calls' answers, and tested.
  *
@@ -20,17 +22,19 @@
  *
  * WHAT THE HOST OWES. The library cannot check these:
  *
- * - The areas of one call do not overlap.
+ * - The areas of one call do not overlap, the summary included.
  * - Each length is true: so many octets are there, and may be read, or written
  *   where the pointer is not const.
  * - No pointer is NULL, not even for length 0: give the address of any octet.
- * - One call at a time for a table and its store. Different tables with
- *   different stores may be in calls at the same time: nothing is shared.
- * - Table and store go together. From its opening on, each call gets the table
- *   as the last call with it left it, whether that was refused or not, and so
- *   the store. Nobody else writes the store. What it held at the opening does
- *   not matter. (A table that is not sound is refused; one that is sound but
- *   is not the last one is answered, and wrongly.)
+ * - One call at a time for a table, its summary and its store. Different tables
+ *   with different summaries and stores may be in calls at the same time:
+ *   nothing is shared.
+ * - Table, summary and store go together. From its opening on, each call gets
+ *   the table as the last call with it left it, whether that was refused or
+ *   not, and so the summary and the store. Nobody else writes these two; the
+ *   summary may be read between calls. What they held at the opening does not
+ *   matter. (A table or a summary that is not sound is refused; one that is
+ *   sound but is not the last one is answered, and wrongly.)
  * - A delivery is asked for before the next call with that table: with the
  *   decision of the call that delivered, and with the parameter and the store
  *   as that call left them. Its octets are used, or copied, before that next
@@ -51,10 +55,10 @@
 
 /* ---- Versions ---- */
 
-#define EGRYNNOL_VERSION_MAJOR 1
+#define EGRYNNOL_VERSION_MAJOR 2
 #define EGRYNNOL_VERSION_MINOR 0
 #define EGRYNNOL_VERSION_PATCH 0
-#define EGRYNNOL_VERSION_STRING "1.0.0"
+#define EGRYNNOL_VERSION_STRING "2.0.0"
 
 /* One number for #if: 1002003 is 1.2.3. */
 #define EGRYNNOL_VERSION \
@@ -63,9 +67,9 @@
 /* The interface: it changes with every layout, call or number in this file that
  * an older host would misread (docs/MIGRATION.md). It is part of the calls'
  * symbols, so that a host compiled against another one does not link. */
-#define EGRYNNOL_INTERFACE 1
+#define EGRYNNOL_INTERFACE 2
 
-/* The symbol of a call: EGRYNNOL_SYMBOL("segment") is "egrynnol_1_segment". It is
+/* The symbol of a call: EGRYNNOL_SYMBOL("segment") is "egrynnol_2_segment". It is
  * for dlsym; a host that links uses the calls by their names. */
 #define EGRYNNOL_SYMBOL(call) "egrynnol_" EGRYNNOL_TEXT(EGRYNNOL_INTERFACE) "_" call
 #define EGRYNNOL_TEXT(number) EGRYNNOL_TEXT_OF(number)
@@ -107,6 +111,8 @@ extern "C" {
 #define EGRYNNOL_SEGMENTS 10        /* segments of a sequence at most */
 #define EGRYNNOL_PARAMETER 255      /* octets of a parameter at most */
 #define EGRYNNOL_ADDRESS 20         /* octets of an address at most */
+#define EGRYNNOL_ROWS 64            /* rows of a summary: associations at most, from an opening on */
+#define EGRYNNOL_TOTAL_MOST ((uint64_t)1 << 63) /* a total may become this, and no more; not for #if */
 
 /* The least lengths of the lent areas. */
 #define EGRYNNOL_STORE 32768        /* store: place p has the octets from 2048 x p on */
@@ -160,10 +166,11 @@ enum egrynnol_cause {
 
 /* ---- Refusal numbers ----
  * A refused call answers its number, the table as it came (opening: the all-zero
- * table), 0 records, and for sending a count of 0. No lent octet is altered. */
+ * table), 0 records, and for sending a count of 0. No lent octet is altered, and
+ * no number of the summary (opening: all of them are 0 then, too). */
 enum egrynnol_refusal {
     EGRYNNOL_GOOD = 0,                      /* not refused */
-    EGRYNNOL_REFUSAL_TABLE = 1,             /* table not sound */
+    EGRYNNOL_REFUSAL_TABLE = 1,             /* table not sound, or summary not sound beside it */
     EGRYNNOL_REFUSAL_STORE = 2,             /* store under 32,768 */
     EGRYNNOL_REFUSAL_REPORT = 3,            /* report area under 32 (segment) or 512 (clock, release) */
     EGRYNNOL_REFUSAL_PARAMETER = 4,         /* parameter over 255 */
@@ -182,7 +189,9 @@ enum egrynnol_refusal {
     EGRYNNOL_REFUSAL_INSTRUCTION = 17,      /* instruction over 3 */
     EGRYNNOL_REFUSAL_ROOM = 18,             /* R1 or R over 255; or segmented and R1 < h + 1, R < h + 2, or more than 10 segments */
     EGRYNNOL_REFUSAL_NUMBER = 19,           /* segment number not below the count */
-    EGRYNNOL_REFUSAL_AREA = 20              /* lent area shorter than the segment */
+    EGRYNNOL_REFUSAL_AREA = 20,             /* lent area shorter than the segment */
+    EGRYNNOL_REFUSAL_ROW = 21,              /* the association has no row, and no row is unused */
+    EGRYNNOL_REFUSAL_TOTAL = 22             /* a total would be over 2^63 */
 };
 
 /* ---- The table ----
@@ -218,6 +227,33 @@ typedef struct egrynnol_table {
     uint32_t timer;             /* T; 0 in the unopened table, which every call but opening refuses with 1 */
     uint32_t clock;
 } egrynnol_table;
+
+/* ---- The summary ----
+ * Totals for each association since the opening, column by column: row i is what
+ * each array has at i. An association gets the lowest unused row at its first
+ * taken segment, and keeps it until the next opening. Taken is every segment that
+ * is not refused; delivered and lost is what the records cover. Octets are those
+ * of the information.
+ *
+ * The host holds it beside the table and lends it to each call that takes it. To
+ * read it, go through i from 0 to 63 and pass over those whose mark is 0; or ask
+ * egrynnol_row_of, below.
+ *
+ * It is sound beside a table if each mark is 0 or 1, an unused row is all zero, a
+ * used one has an association to 65,535, no two used rows have the same, and the
+ * association of each open place has a row. Totals are not judged: one that is
+ * over 2^63 stays, as long as nothing is to be added to it. */
+
+typedef struct egrynnol_summary {
+    uint64_t mark[EGRYNNOL_ROWS];               /* 1 used, 0 unused; an unused row is all zero */
+    uint64_t association[EGRYNNOL_ROWS];        /* 0 to 65,535 */
+    uint64_t taken_segments[EGRYNNOL_ROWS];
+    uint64_t taken_octets[EGRYNNOL_ROWS];
+    uint64_t delivered_segments[EGRYNNOL_ROWS];
+    uint64_t delivered_octets[EGRYNNOL_ROWS];
+    uint64_t lost_segments[EGRYNNOL_ROWS];
+    uint64_t lost_octets[EGRYNNOL_ROWS];
+} egrynnol_summary;
 
 /* ---- Answers ---- */
 
@@ -286,18 +322,21 @@ typedef struct egrynnol_part {
 /* ---- The calls ---- */
 
 /*
- * egrynnol_opening - a table with no open place.
+ * egrynnol_opening - a table with no open place, and a summary with no used row.
  *
+ * summary: may hold anything; all its numbers are 0 afterwards, refused or not.
  * registry: 0 to 8 records of 3 octets, see above; length 0 is allowed.
  * timer: T, 1 to 1,000,000. clock: the time now, any.
  *
- * Answers the table and the refusal. Changes nothing. Opening again drops what
- * is open in the old table, with no record.
+ * Answers the table and the refusal. Changes nothing but the summary. Opening
+ * again drops what is open in the old table, with no record, and the totals: read
+ * them before.
  *
  * Refusals, in this order: 12, 11. Refused, the table is the unopened one, all
  * zero.
  */
-egrynnol_opened egrynnol_opening(const uint8_t *registry, size_t registry_length,
+egrynnol_opened egrynnol_opening(egrynnol_summary *summary,
+                                 const uint8_t *registry, size_t registry_length,
                                  uint32_t timer, uint32_t clock) EGRYNNOL_CALL("opening");
 
 /*
@@ -310,13 +349,18 @@ egrynnol_opened egrynnol_opening(const uint8_t *registry, size_t registry_length
  * saved too. After EGRYNNOL_LOST with cause 3 the segment is saved as the start
  * of a new sequence, in the same place.
  *
+ * Of the summary, only the association's row changes: the segment counts as
+ * taken, and what a record covers as delivered or as lost. A total to which the
+ * segment adds nothing is not looked at.
+ *
  * The destination address is read and passed over. What the information means
  * is not looked at.
  *
  * Refusals, in this order: 1, 2, 3, 4; then 5 to 9 by the parameter's octets from
- * left to right; then 10.
+ * left to right; then 10, 21, 22.
  */
-egrynnol_received egrynnol_segment(egrynnol_table table, uint8_t *store, size_t store_length,
+egrynnol_received egrynnol_segment(egrynnol_table table, egrynnol_summary *summary,
+                                   uint8_t *store, size_t store_length,
                                    uint8_t *report, size_t report_length, uint16_t association,
                                    const uint8_t *parameter, size_t parameter_length)
     EGRYNNOL_CALL("segment");
@@ -331,9 +375,13 @@ egrynnol_received egrynnol_segment(egrynnol_table table, uint8_t *store, size_t 
  * to the front of report in place order; the rest of report stays. A step of 0 is
  * good. A sequence is lost by the timer only here, so call it often enough.
  *
- * Refusals, in this order: 1, 3, 13.
+ * Of the summary, the rows of the associations that lose something change. Several
+ * losses of one association are judged by their sum.
+ *
+ * Refusals, in this order: 1, 3, 13, 22.
  */
-egrynnol_swept egrynnol_clock(egrynnol_table table, uint8_t *report, size_t report_length,
+egrynnol_swept egrynnol_clock(egrynnol_table table, egrynnol_summary *summary,
+                              uint8_t *report, size_t report_length,
                               uint32_t time) EGRYNNOL_CALL("clock");
 
 /*
@@ -343,11 +391,13 @@ egrynnol_swept egrynnol_clock(egrynnol_table table, uint8_t *report, size_t repo
  * no record and no refusal.
  *
  * Answers the table, the refusal and the number of records (0 to 16). Records go
- * to the front of report in place order; the rest of report stays.
+ * to the front of report in place order; the rest of report stays. Of the summary,
+ * only the association's row changes, and it keeps that row; it needs none.
  *
- * Refusals, in this order: 1, 3.
+ * Refusals, in this order: 1, 3, 22.
  */
-egrynnol_swept egrynnol_release(egrynnol_table table, uint8_t *report, size_t report_length,
+egrynnol_swept egrynnol_release(egrynnol_table table, egrynnol_summary *summary,
+                                uint8_t *report, size_t report_length,
                                 uint16_t association) EGRYNNOL_CALL("release");
 
 /*
@@ -414,6 +464,11 @@ EGRYNNOL_CHECK(entry, sizeof(egrynnol_entry) == 4
 EGRYNNOL_CHECK(table, sizeof(egrynnol_table) == 616
                && offsetof(egrynnol_table, places) == 0 && offsetof(egrynnol_table, registry) == 576
                && offsetof(egrynnol_table, timer) == 608 && offsetof(egrynnol_table, clock) == 612);
+EGRYNNOL_CHECK(summary, sizeof(egrynnol_summary) == 4096
+               && offsetof(egrynnol_summary, mark) == 0 && offsetof(egrynnol_summary, association) == 512
+               && offsetof(egrynnol_summary, taken_segments) == 1024 && offsetof(egrynnol_summary, taken_octets) == 1536
+               && offsetof(egrynnol_summary, delivered_segments) == 2048 && offsetof(egrynnol_summary, delivered_octets) == 2560
+               && offsetof(egrynnol_summary, lost_segments) == 3072 && offsetof(egrynnol_summary, lost_octets) == 3584);
 EGRYNNOL_CHECK(decision, sizeof(egrynnol_decision) == 32
                && offsetof(egrynnol_decision, place) == 0 && offsetof(egrynnol_decision, start) == 8
                && offsetof(egrynnol_decision, length) == 16 && offsetof(egrynnol_decision, kind) == 24
@@ -499,12 +554,13 @@ typedef struct egrynnol_taken {
  *   #include "egrynnol.h"
  *
  *   static egrynnol_table table;
+ *   static egrynnol_summary summary;
  *   static uint8_t store[EGRYNNOL_STORE], report[EGRYNNOL_REPORT_SEGMENT];
  *
  *   void arrived(uint16_t association, const uint8_t *parameter, size_t length)
  *   {
- *       egrynnol_received got = egrynnol_segment(table, store, sizeof store,
- *           report, sizeof report, association, parameter, length);
+ *       egrynnol_received got = egrynnol_segment(table, &summary,
+ *           store, sizeof store, report, sizeof report, association, parameter, length);
  *       egrynnol_taken data;
  *
  *       table = got.table;
@@ -544,13 +600,32 @@ EGRYNNOL_INLINE size_t egrynnol_header_length(unsigned kind, unsigned context,
     return h;
 }
 
+/*
+ * egrynnol_row_of - the row of an association, from 0 on.
+ *
+ * EGRYNNOL_ROWS where it has none: no segment of it was taken since the opening.
+ * The summary is as a call left it. For the octets lost:
+ *
+ *   size_t i = egrynnol_row_of(&summary, association);
+ *   uint64_t lost = i < EGRYNNOL_ROWS ? summary.lost_octets[i] : 0;
+ */
+EGRYNNOL_INLINE EGRYNNOL_USE_ANSWER size_t egrynnol_row_of(const egrynnol_summary *summary, uint16_t association)
+{
+    size_t i;
+
+    for (i = 0; i < EGRYNNOL_ROWS; i++)
+        if (summary->mark[i] == 1 && summary->association[i] == association)
+            return i;
+    return EGRYNNOL_ROWS;
+}
+
 /* The number's meaning in a few words; "unknown" for a number that has none. */
 
 EGRYNNOL_INLINE const char *egrynnol_refusal_name(unsigned refusal)
 {
     switch (refusal) {
     case EGRYNNOL_GOOD: return "not refused";
-    case EGRYNNOL_REFUSAL_TABLE: return "table not sound";
+    case EGRYNNOL_REFUSAL_TABLE: return "table or summary not sound";
     case EGRYNNOL_REFUSAL_STORE: return "store too short";
     case EGRYNNOL_REFUSAL_REPORT: return "report area too short";
     case EGRYNNOL_REFUSAL_PARAMETER: return "parameter too long";
@@ -570,6 +645,8 @@ EGRYNNOL_INLINE const char *egrynnol_refusal_name(unsigned refusal)
     case EGRYNNOL_REFUSAL_ROOM: return "rooms too small or too large";
     case EGRYNNOL_REFUSAL_NUMBER: return "segment number not below the count";
     case EGRYNNOL_REFUSAL_AREA: return "area too short";
+    case EGRYNNOL_REFUSAL_ROW: return "no row for the association";
+    case EGRYNNOL_REFUSAL_TOTAL: return "total too large";
     default: return "unknown";
     }
 }

@@ -1,6 +1,7 @@
 /*
  * The inline functions of egrynnol.h, which no proof covers: every name, every field of a record, the
- * header's length beside what sending writes, and a delivery for every kind of decision.
+ * header's length beside what sending writes, a delivery for every kind of decision, and the row of an
+ * association. Also what the header says of a summary that the host hands over.
  * Prints one line; the first thing that is not as expected ends it with status 1.
  */
 #include <stdio.h>
@@ -11,6 +12,7 @@
 
 #define CHECK(truth) check((truth), #truth, __LINE__)
 
+static egrynnol_summary summary;
 static uint8_t store[EGRYNNOL_STORE];
 static uint8_t report[EGRYNNOL_REPORT_SWEEP];
 
@@ -39,10 +41,13 @@ static void names(const char *(*name)(unsigned), unsigned first, unsigned last)
 
 static void all_names(void)
 {
-    names(egrynnol_refusal_name, EGRYNNOL_GOOD, EGRYNNOL_REFUSAL_AREA);
+    names(egrynnol_refusal_name, EGRYNNOL_GOOD, EGRYNNOL_REFUSAL_TOTAL);
     names(egrynnol_cause_name, 0, EGRYNNOL_CAUSE_RELEASE);
     names(egrynnol_decision_name, EGRYNNOL_REFUSED, EGRYNNOL_LOST);
     CHECK(strcmp(egrynnol_refusal_name(EGRYNNOL_REFUSAL_FULL), "no place free") == 0);
+    CHECK(strcmp(egrynnol_refusal_name(EGRYNNOL_REFUSAL_TABLE), "table or summary not sound") == 0);
+    CHECK(EGRYNNOL_REFUSAL_ROW == 21 && strcmp(egrynnol_refusal_name(21), "no row for the association") == 0);
+    CHECK(EGRYNNOL_REFUSAL_TOTAL == 22 && strcmp(egrynnol_refusal_name(22), "total too large") == 0);
     CHECK(strcmp(egrynnol_cause_name(EGRYNNOL_CAUSE_TIMER), "timer") == 0);
     CHECK(strcmp(egrynnol_decision_name(EGRYNNOL_DELIVERED_STORE), "delivered from the store") == 0);
 }
@@ -88,7 +93,7 @@ static egrynnol_table opened_with(unsigned kind, unsigned context)
     registry[0] = (uint8_t)kind;
     registry[1] = (uint8_t)(context / 256);
     registry[2] = (uint8_t)(context % 256);
-    opened = egrynnol_opening(registry, sizeof registry, 100, 0);
+    opened = egrynnol_opening(&summary, registry, sizeof registry, 100, 0);
     CHECK(opened.refusal == EGRYNNOL_GOOD);
     return opened.table;
 }
@@ -130,13 +135,18 @@ static void header_lengths(void)
     }
 }
 
-static egrynnol_received arrives(egrynnol_table *table, const uint8_t *parameter, size_t length)
+static egrynnol_received arrives_on(uint16_t association, egrynnol_table *table, const uint8_t *parameter, size_t length)
 {
-    egrynnol_received received =
-        egrynnol_segment(*table, store, sizeof store, report, sizeof report, 9, parameter, length);
+    egrynnol_received received = egrynnol_segment(*table, &summary, store, sizeof store, report, sizeof report,
+                                                  association, parameter, length);
 
     *table = received.table;
     return received;
+}
+
+static egrynnol_received arrives(egrynnol_table *table, const uint8_t *parameter, size_t length)
+{
+    return arrives_on(9, table, parameter, length);
 }
 
 static egrynnol_taken take(egrynnol_received received, const uint8_t *parameter, size_t length)
@@ -178,12 +188,136 @@ static void deliveries(void)
     CHECK(egrynnol_take(made_up, whole, sizeof whole, store, sizeof store).length == 0);
 }
 
+/* The row that egrynnol_row_of has to answer for each association, told column by column. */
+static void row_is(uint16_t association, size_t row)
+{
+    CHECK(egrynnol_row_of(&summary, association) == row);
+    CHECK(row == EGRYNNOL_ROWS || (summary.mark[row] == 1 && summary.association[row] == association));
+}
+
+/* In a summary that was written by hand: the first row and the last one, and association 0 beside rows that are
+ * not used, which are all zero. */
+static void rows_by_hand(void)
+{
+    memset(&summary, 0, sizeof summary);
+    row_is(0, EGRYNNOL_ROWS);
+    row_is(9, EGRYNNOL_ROWS);
+    summary.mark[0] = 1;
+    summary.association[0] = 65535;
+    summary.mark[EGRYNNOL_ROWS - 1] = 1;
+    summary.association[EGRYNNOL_ROWS - 1] = 9;
+    row_is(65535, 0);
+    row_is(9, EGRYNNOL_ROWS - 1);
+    row_is(0, EGRYNNOL_ROWS);
+    summary.mark[20] = 1;
+    row_is(0, 20);
+    summary.association[0] = 65536 + 9;
+    row_is(9, EGRYNNOL_ROWS - 1);
+}
+
+/* Row i as six numbers beside these. */
+static int row_says(size_t i, unsigned ts, unsigned to, unsigned ds, unsigned d, unsigned ls, unsigned l)
+{
+    return summary.taken_segments[i] == ts && summary.taken_octets[i] == to && summary.delivered_segments[i] == ds
+        && summary.delivered_octets[i] == d && summary.lost_segments[i] == ls && summary.lost_octets[i] == l;
+}
+
+/* As the calls make them: a row each, to the last one; then 21, and after an opening none. */
+static void rows_by_calls(void)
+{
+    static const uint8_t whole[] = {0x83, 0x80, 0xC0, 0xAA, 0xBB};
+    static const uint8_t first[] = {0x83, 0x81, 0x41, 0x85, 0xAA, 0xBB, 0xCC};
+    egrynnol_table table = opened_with(EGRYNNOL_KIND_1998, 3);
+    egrynnol_swept swept;
+    egrynnol_summary before;
+    uint16_t k;
+
+    for (k = 0; k < EGRYNNOL_ROWS; k++) {
+        row_is((uint16_t)(1000 - k), EGRYNNOL_ROWS);
+        CHECK(arrives_on((uint16_t)(1000 - k), &table, whole, sizeof whole).refusal == EGRYNNOL_GOOD);
+        row_is((uint16_t)(1000 - k), k);
+        CHECK(row_says(k, 1, 2, 1, 2, 0, 0));
+    }
+    before = summary;
+    CHECK(arrives_on(9, &table, whole, sizeof whole).refusal == EGRYNNOL_REFUSAL_ROW);
+    CHECK(memcmp(&before, &summary, sizeof summary) == 0);
+    row_is(9, EGRYNNOL_ROWS);
+
+    CHECK(arrives_on(1000, &table, first, sizeof first).refusal == EGRYNNOL_GOOD && row_says(0, 2, 5, 1, 2, 0, 0));
+    swept = egrynnol_clock(table, &summary, report, sizeof report, 100);
+    CHECK(swept.refusal == EGRYNNOL_GOOD && swept.records == 1 && row_says(0, 2, 5, 1, 2, 1, 3));
+    table = swept.table;
+    CHECK(arrives_on(1000, &table, first, sizeof first).refusal == EGRYNNOL_GOOD && row_says(0, 3, 8, 1, 2, 1, 3));
+    before = summary;
+    summary.lost_octets[0] = EGRYNNOL_TOTAL_MOST - 2;
+    swept = egrynnol_release(table, &summary, report, sizeof report, 1000);
+    CHECK(swept.refusal == EGRYNNOL_REFUSAL_TOTAL && swept.records == 0);
+    summary.lost_octets[0]--;
+    swept = egrynnol_release(table, &summary, report, sizeof report, 1000);
+    CHECK(swept.refusal == EGRYNNOL_GOOD && swept.records == 1 && summary.lost_octets[0] == EGRYNNOL_TOTAL_MOST);
+
+    summary = before;
+    summary.mark[5] = 2;
+    CHECK(arrives_on(1000, &table, whole, sizeof whole).refusal == EGRYNNOL_REFUSAL_TABLE);
+    table = opened_with(EGRYNNOL_KIND_1998, 3);
+    for (k = 0; k < EGRYNNOL_ROWS; k++)
+        row_is((uint16_t)(1000 - k), EGRYNNOL_ROWS);
+}
+
+/* What a release of nobody answers beside a table with two sequences of association 9, one octet each, where one
+ * number of the summary is another: it adds nothing, so that only soundness is asked. */
+static unsigned judged(egrynnol_table table, uint64_t *number, uint64_t other)
+{
+    uint64_t before = *number;
+    egrynnol_swept swept;
+
+    *number = other;
+    swept = egrynnol_release(table, &summary, report, sizeof report, 8);
+    CHECK(*number == other && swept.records == 0);
+    *number = before;
+    return swept.refusal;
+}
+
+static void handed_over(void)
+{
+    static const uint8_t five[] = {0x83, 0x81, 0x41, 0x85, 0xAA}, six[] = {0x83, 0x81, 0x41, 0x86, 0xAA};
+    egrynnol_table table = opened_with(EGRYNNOL_KIND_1998, 3);
+    egrynnol_swept swept;
+
+    CHECK(arrives(&table, five, sizeof five).decision.kind == EGRYNNOL_SAVED);
+    CHECK(arrives(&table, six, sizeof six).decision.kind == EGRYNNOL_SAVED);
+    CHECK(judged(table, &summary.mark[0], 1) == EGRYNNOL_GOOD);
+    CHECK(judged(table, &summary.mark[0], 2) == EGRYNNOL_REFUSAL_TABLE);
+    CHECK(judged(table, &summary.mark[0], 0) == EGRYNNOL_REFUSAL_TABLE);
+    CHECK(judged(table, &summary.association[0], 10) == EGRYNNOL_REFUSAL_TABLE);
+    CHECK(judged(table, &summary.association[0], 65536 + 9) == EGRYNNOL_REFUSAL_TABLE);
+    CHECK(judged(table, &summary.association[63], 1) == EGRYNNOL_REFUSAL_TABLE);
+    CHECK(judged(table, &summary.lost_octets[63], 1) == EGRYNNOL_REFUSAL_TABLE);
+    CHECK(judged(table, &summary.mark[63], 1) == EGRYNNOL_GOOD);
+    CHECK(judged(table, &summary.lost_octets[0], EGRYNNOL_TOTAL_MOST + 1) == EGRYNNOL_GOOD);
+    summary.association[63] = 9;
+    CHECK(judged(table, &summary.mark[63], 1) == EGRYNNOL_REFUSAL_TABLE);
+    summary.association[63] = 0;
+
+    summary.delivered_octets[0] = EGRYNNOL_TOTAL_MOST + 1;
+    summary.lost_octets[0] = EGRYNNOL_TOTAL_MOST - 1;
+    CHECK(egrynnol_clock(table, &summary, report, sizeof report, 0x80000000u).refusal == EGRYNNOL_REFUSAL_STEP);
+    CHECK(egrynnol_clock(table, &summary, report, sizeof report, 100).refusal == EGRYNNOL_REFUSAL_TOTAL);
+    CHECK(egrynnol_clock(table, &summary, report, sizeof report, 99).refusal == EGRYNNOL_GOOD);
+    CHECK(summary.lost_octets[0] == EGRYNNOL_TOTAL_MOST - 1 && summary.lost_segments[0] == 0);
+    summary.lost_octets[0]--;
+    swept = egrynnol_clock(table, &summary, report, sizeof report, 100);
+    CHECK(swept.refusal == EGRYNNOL_GOOD && swept.records == 2);
+    CHECK(summary.lost_octets[0] == EGRYNNOL_TOTAL_MOST && summary.lost_segments[0] == 2);
+    CHECK(summary.delivered_octets[0] == EGRYNNOL_TOTAL_MOST + 1);
+}
+
 /* The calls are functions with addresses, whatever their symbols are. */
 static void addresses(void)
 {
-    egrynnol_swept (*call)(egrynnol_table, uint8_t *, size_t, uint16_t) = &egrynnol_release;
+    egrynnol_swept (*call)(egrynnol_table, egrynnol_summary *, uint8_t *, size_t, uint16_t) = &egrynnol_release;
 
-    CHECK(call(opened_with(EGRYNNOL_KIND_1998, 3), report, sizeof report, 9).refusal == EGRYNNOL_GOOD);
+    CHECK(call(opened_with(EGRYNNOL_KIND_1998, 3), &summary, report, sizeof report, 9).refusal == EGRYNNOL_GOOD);
 }
 
 int main(void)
@@ -193,7 +327,10 @@ int main(void)
     records();
     header_lengths();
     deliveries();
+    rows_by_hand();
+    rows_by_calls();
+    handed_over();
     addresses();
-    printf("inline functions: as expected\n");
+    printf("inline functions and summaries: as expected\n");
     return 0;
 }

@@ -1,5 +1,5 @@
 #!/usr/bin/env python3
-"""The manual page beside the header: every function is in it with the same arguments, and what the host owes is told in the same words."""
+"""The manual page beside the header: every function is in it with the same arguments and the same order of refusals, every refusal number is, and what the host owes is told in the same words."""
 import os
 import re
 import sys
@@ -55,6 +55,32 @@ def owed_of_manual(text):
     return [squeezed(re.sub(r"^\.B ", "", item, flags=re.M)) for item in items]
 
 
+ORDER = re.compile(r"Refusals, in this order: (.*?)\.(?= |$)")
+
+
+def orders_of_header(text):
+    """Name to the order of its refusals."""
+    comments = re.findall(r"/\*\n \* (egrynnol_\w+) - (.*?)\*/", text, flags=re.S)
+    found = {name: ORDER.search(squeezed(comment.replace("\n *", "\n"))) for name, comment in comments}
+    return {name: order.group(1) for name, order in found.items() if order}
+
+
+def orders_of_manual(text):
+    sections = re.split(r"^\.S[SH] ", text, flags=re.M)
+    found = {section.split("\n")[0]: ORDER.search(squeezed(section)) for section in sections}
+    return {name: order.group(1) for name, order in found.items() if order}
+
+
+def numbers_of_header(text):
+    body = text[text.index("enum egrynnol_refusal {"):]
+    return re.findall(r"= (\d+)", body[:body.index("};")])
+
+
+def numbers_of_manual(text):
+    part = text[text.index(".SH REFUSALS"):text.index(".SH EXAMPLES")]
+    return re.findall(r"^\.B (\d+)$", part, flags=re.M)
+
+
 def main():
     header, manual = read("include/egrynnol.h"), read("man/egrynnol.3")
     bad = []
@@ -65,10 +91,14 @@ def main():
             bad.append("%s: the header has %r, the manual %r" % (name, ours.get(name), theirs.get(name)))
         if not re.search(r"\b%s\b" % name, name_section) or not re.search(r"^\.SS .*\b%s\b" % name, manual, flags=re.M):
             bad.append("%s: not under NAME, or with no section of its own" % name)
+    for what, one, other in (("the orders of refusals", orders_of_header(header), orders_of_manual(manual)),
+                             ("the refusal numbers", numbers_of_header(header), numbers_of_manual(manual))):
+        if one != other or len(one) < 5:
+            bad.append("%s: the header has %s, the manual %s" % (what, one, other))
     told, again = owed_of_header(header), owed_of_manual(manual)
     if told != again:
         bad.append("what the host owes is not told in the same words:\n  header %s\n  manual %s" % (told, again))
-    if len(ours) < 12 or len(told) < 6:
+    if len(ours) < 13 or len(told) < 6:
         bad.append("only %d functions and %d duties were found" % (len(ours), len(told)))
     for line in bad:
         print("tests/manual.py: " + line, file=sys.stderr)

@@ -26,14 +26,25 @@ import unittest
 sys.dont_write_bytecode = True
 
 from running import ROOT, SUBCOMMANDS, TOOL, TOOLS, Ran, example, examples, process, run
-from egrynnol_lib import VERSION, commands, programs, rows, streams
+from egrynnol_lib import VERSION, commands, programs, rows, streams, totals
 
 SEED = int(os.environ.get("SEED", "765"))
 RUNS = int(os.environ.get("RUNS", "600"))
 FAULTS = re.compile("Traceback|Exception|fault of its own|Fatal Python")
-REPLAYING = (["replay"], ["records"], ["records", "--csv"], ["records", "--json"], ["explain"])
+REPLAYING = (["replay"], ["records"], ["records", "--csv"], ["records", "--json"], ["totals"], ["totals", "--csv"], ["explain"])
+ONE_FILE = (["totals", "--csv"],)  # of these, those that take no more than one file
 TRACE = run("encode", example("origins")).out
-LONG = run("encode", data=b"context 1998 3\nopen 100 0\n" + b"segment 9 83 81 41 85 AA\nsegment 9 83 80 00 85 BB\n" * 8000).out
+LONG = run("encode", data=b"context 1998 3\n" + b"open 100 0\nsegment 9 83 81 41 85 AA\nsegment 9 83 80 00 85 BB\n" * 8000).out
+
+
+def head_of(words):
+    """What is printed before anything of the input is."""
+    return {("records", "--csv"): rows.csv_head(), ("totals", "--csv"): totals.csv_head()}.get(tuple(words), "").encode()
+
+
+def program_of(words):
+    """The program that the subcommand runs."""
+    return "records" if words[0] == "explain" else words[0]
 
 
 class Folder(unittest.TestCase):
@@ -73,7 +84,7 @@ class Statuses(Folder):
     def test_bad_input(self):
         for words in REPLAYING + (["encode"],):
             ran = run(*words, data=b"open 1\n")
-            self.assertEqual(ran, (1, rows.csv_head().encode() if words[-1] == "--csv" else b"", "standard input:1: open: the number for clock is missing\n"))
+            self.assertEqual(ran, (1, head_of(words), "standard input:1: open: the number for clock is missing\n"))
         self.assertEqual(run("decode", data=b"\7").status, 1)
         self.assertEqual(run("replay", data=b"\xff\xfeo\0p\0")[::2], (1, "standard input: this is text in UTF-16: save it as UTF-8\n"))
 
@@ -90,11 +101,13 @@ class Statuses(Folder):
             ran = run(*words, example("bad-input"))
             self.assertEqual(ran[::2], (3, ""), words)
             self.assertEqual(run(*words, data=b"\x22\0")[::2], (3, ""), words)
-        self.assertEqual(run("replay", data=b"\x22\0").out, b"stop\n")
+        for words in (["replay"], ["totals"]):
+            self.assertEqual(run(*words, data=b"\x22\0").out, b"stop\n")
+        self.assertEqual(run("totals", "--csv", data=b"\x22\0").out, head_of(["totals", "--csv"]))
 
     def test_wrong_use(self):
         for words in ([], ["foo"], ["--foo"], ["-"], ["encode", "--text"], ["decode", "a", "b"], ["replay", "--csv"], ["records", "--csv", "--json"],
-                      ["explain", "--text", "--octets"], ["from-pcap"], ["from-pcap", "--tick", "0", "x"], ["from-pcap", "--tick", "nan", "x"],
+                      ["explain", "--text", "--octets"], ["totals", "--json"], ["totals", "--csv", "a", "b"], ["from-pcap"], ["from-pcap", "--tick", "0", "x"], ["from-pcap", "--tick", "nan", "x"],
                       ["from-pcap", "--timer", "1000001", "x"], ["replay", "-o"], ["replay", "--te"]):
             ran = run(*words)
             self.assertEqual((ran.status, ran.out), (64, b""), words)
@@ -111,15 +124,18 @@ class Statuses(Folder):
         good, stops, bad, none = example("origins"), example("bad-input"), self.path("bad", b"open 1\n"), self.path("none")
         for files, status in (((good, stops), 3), ((stops, bad, good), 1), ((none, bad), 2), ((bad, none, stops), 2), ((good, good), 0)):
             for words in REPLAYING:
+                if words in ONE_FILE:
+                    continue
                 ran = run(*words, *files)
                 self.assertEqual(ran.status, status, (words, files))
-                if words == ["replay"]:
+                if words in (["replay"], ["totals"]):
                     self.assertEqual(ran.out.count(b"# "), sum(1 for file in files if file in (good, stops)))
 
     def test_several_files_are_told_apart(self):
         one, two = example("origins"), example("timer")
-        out = b"".join(b"# %s\n" % os.fsencode(path) + run("replay", path).out for path in (one, two))
-        self.assertEqual(run("replay", one, two).out, out)
+        for name in ("replay", "totals"):
+            out = b"".join(b"# %s\n" % os.fsencode(path) + run(name, path).out for path in (one, two))
+            self.assertEqual(run(name, one, two).out, out)
         table = list(csv.DictReader(io.StringIO(run("records", "--csv", one, two).out.decode())))
         self.assertEqual({row["file"] for row in table}, {one, two})
 
@@ -148,6 +164,9 @@ class Streams(Folder):
                           ('"$TOOL" replay "$GOOD" 1</', "egrynnol: standard output: " + folder),
                           ('"$TOOL" replay "$GOOD" > /dev/full', "standard output: " + full), ('"$TOOL" records "$GOOD" > /dev/full', "standard output: " + full),
                           ('"$TOOL" records --csv "$GOOD" > /dev/full', "standard output: " + full), ('"$TOOL" records --json "$GOOD" > /dev/full', "standard output: " + full),
+                          ('"$TOOL" totals "$GOOD" > /dev/full', "standard output: " + full), ('"$TOOL" totals --csv "$GOOD" > /dev/full', "standard output: " + full),
+                          ('"$TOOL" totals "$GOOD" >&-', "standard output: " + closed), ('"$TOOL" totals <&-', "standard input: " + closed),
+                          ('"$TOOL" totals < /', "standard input: " + folder), ('"$TOOL" totals "$GOOD" -o /dev/full', "/dev/full: %s\n" % full),
                           ('"$TOOL" explain "$GOOD" > /dev/full', "standard output: " + full), ('"$TOOL" encode "$GOOD" > /dev/full', "standard output: " + full),
                           ('"$TOOL" encode "$GOOD" | "$TOOL" decode > /dev/full', "standard output: " + full),
                           ('"$TOOL" --help > /dev/full', "standard output: " + full), ('"$TOOL" replay --help > /dev/full', "standard output: " + full),
@@ -334,7 +353,7 @@ class Programs(Folder):
 
     def test_missing(self):
         for words in REPLAYING:
-            name = "replay" if words == ["replay"] else "records"
+            name = program_of(words)
             ran = process(*words, example("origins"), env=dict(os.environ, EGRYNNOL_LIBEXEC=self.place))
             self.assertEqual(ran.status, 2)
             self.assertEqual(ran.err, "egrynnol: the program %s is missing: there is no %s; build it with make, or set EGRYNNOL_LIBEXEC to its folder\n"
@@ -376,6 +395,13 @@ class Programs(Folder):
                 ran = self.with_program("records", "cat >/dev/null; printf '%s\\n'" % line, *words)
                 self.assertEqual(ran.status, 2, line)
                 self.assertRegex(ran.err, r"\Aegrynnol: records (printed|stopped) [^\n]+\n\Z")
+        for line in ("opening 1", "opening 1 0 0", "9 1 1 1 1 0 0", "opening 1 0\n9 1 1 1 1 0", "opening 1 0\n9 1 1 1 1 0 0 0", "opening 1 0\n9 1 1 1 1 0 -1", "opening -", "Stop", "\\377\\376", " ",
+                     "stop\nstop", "stop\nopening 1 0", "opening 1 0\n9 1 1 1 1 0 %s" % ("9" * 5000), "opening 1 0\n9  1 1 1 1 0 0"):
+            ran = self.with_program("totals", "cat >/dev/null; printf '%s\\n'" % line, "totals", "--csv")
+            self.assertEqual((ran.status, ran.out), (2, head_of(["totals", "--csv"])), line)
+            self.assertRegex(ran.err, r"\Aegrynnol: totals printed [^\n]+\n\Z")
+        ran = self.with_program("totals", "cat >/dev/null; printf 'opening 1 0\\n9 1 1'", "totals", "--csv")
+        self.assertEqual(ran[::2], (2, "egrynnol: totals printed half a line\n"))
 
     def test_a_file_that_cannot_be_read_to_its_end(self):
         """It must not look like the end of the trace: nothing is told as held."""
@@ -388,6 +414,19 @@ class Programs(Folder):
         self.assertNotIn(b"held", out)
         os.close(ours)
         os.close(theirs)
+
+    def test_totals_of_a_file_that_cannot_be_read_to_its_end(self):
+        """Nor is there a row: more might have come to it."""
+        for words in (["totals"], ["totals", "--csv"]):
+            ours, theirs = os.pipe()
+            os.set_blocking(ours, False)
+            os.write(theirs, TRACE[:12 + 259])
+            it = self.start(*words, stdin=ours)
+            out, err = it.communicate(timeout=60)
+            self.assertEqual((it.returncode, err), (2, b"standard input: Resource temporarily unavailable\n"))
+            self.assertIn(out, (head_of(words), head_of(words) + b"opening 1 0\n"))
+            os.close(ours)
+            os.close(theirs)
 
     def test_a_number_is_not_read_from_once_it_may_be_another_file(self):
         """A program can stop while a thread of ours still reads the trace for it."""
@@ -456,7 +495,7 @@ class TextOrOctets(Folder):
     def test_every_example_both_ways(self):
         for name in examples():
             octets = run("encode", example(name)).out
-            for words in (["replay"], ["records"]):
+            for words in (["replay"], ["records"], ["totals"], ["totals", "--csv"]):
                 self.assertEqual(run(*words, data=octets), run(*words, example(name)), name)
 
 
@@ -530,6 +569,74 @@ class Tables(Folder):
             self.assertEqual(file.read(), run("records", "--csv", example("billing-day")).out)
 
 
+class Totals(Folder):
+
+    HEAD = "opening,refusal,association,taken_segments,taken_octets,delivered_segments,delivered_octets,lost_segments,lost_octets\n"
+
+    def lines_again(self, table):
+        """The lines of totals that a table was made from; an opening with no row is not told."""
+        lines, last = [], None
+        for row in table:
+            heading = "opening %s %s" % (row["opening"], row["refusal"])
+            lines += [heading] * (heading != last)
+            lines.append(" ".join(list(row.values())[2:]))
+            last = heading
+        return lines
+
+    def told_lines(self, text):
+        """The lines that the program prints, but for 'stop' and headings with nothing under them."""
+        lines = text.decode().splitlines()
+        lines = [line for line in lines if line != "stop"]
+        return [line for line, next_ in zip(lines, lines[1:] + ["opening"]) if not (line.startswith("opening") and next_.startswith("opening"))]
+
+    def test_examples(self):
+        for name in examples():
+            lines, table = run("totals", example(name)), run("totals", "--csv", example(name))
+            self.assertEqual((table.status, table.err), (lines.status, ""))
+            self.assertTrue(table.out.decode().startswith(self.HEAD))
+            self.assertEqual(self.lines_again(csv.DictReader(io.StringIO(table.out.decode(), newline=""))), self.told_lines(lines.out), name)
+
+    def test_the_bill_of_a_day(self):
+        self.assertEqual(run("totals", "--csv", example("billing-day")), (0, (self.HEAD + "1,0,101,5,17,3,11,2,6\n1,0,202,6,19,5,16,1,3\n").encode(), ""))
+
+    def test_openings(self):
+        """Refused ones, empty ones, events before the first; each opening begins anew, and a stop is no row."""
+        text = (b"clock 1\ncontext 1998 3\nopen 0 0\nsegment 9 83 80 C0 AA\nopen 100 0\nopen 100 0\nsegment 9 83 80 C0 AA\nsegment 0 83 80 41 85 01\n"
+                b"open 100 0\nsegment 0 83 80 00 85 01 02\ncontext 1998 4\n")
+        self.assertEqual(run("totals", data=text), (3, b"opening 2 12\nopening 4 0\nopening 5 0\n9 1 1 1 1 0 0\n0 1 1 0 0 0 0\nopening 8 0\n0 1 2 0 0 1 2\nstop\n", ""))
+        self.assertEqual(run("totals", "--csv", data=text), (3, (self.HEAD + "5,0,9,1,1,1,1,0,0\n5,0,0,1,1,0,0,0,0\n8,0,0,1,2,0,0,1,2\n").encode(), ""))
+
+    def test_no_opening(self):
+        for text in (b"", b"context 1998 3\n", b"clock 1\nrelease 9\n"):
+            self.assertEqual(run("totals", data=text), (0, b"", ""))
+            self.assertEqual(run("totals", "--csv", data=text), (0, self.HEAD.encode(), ""))
+
+    def test_to_a_file(self):
+        out = self.path("bill.csv")
+        self.assertEqual(run("totals", "--csv", example("billing-day"), "-o", out), (0, b"", ""))
+        with open(out, "rb") as file:
+            self.assertEqual(file.read(), run("totals", "--csv", example("billing-day")).out)
+        self.assertEqual(run("totals", "--csv", "a", "b", "-o", out).status, 64)
+        self.assertEqual(os.listdir(self.place), ["bill.csv"])
+
+    def test_an_opening_with_its_rows_as_soon_as_the_next_one_comes(self):
+        for words, wanted in ((["totals"], b"opening 1 0\n9 4 8 4 8 0 0\n"), (["totals", "--csv"], head_of(["totals", "--csv"]) + b"1,0,9,4,8,4,8,0,0\n")):
+            it = self.start(*words)
+            it.stdin.write(TRACE + TRACE[3:12])
+            got = b""
+            while len(got) < len(wanted):
+                got += it.stdout.read(len(wanted) - len(got))
+            self.assertEqual(got, wanted)
+            it.stdin.close()
+            self.assertEqual(it.wait(60), 0)
+
+    def test_the_largest_numbers(self):
+        path = self.path("totals", b"#!/bin/sh\ncat >/dev/null; echo opening 18446744073709551 0; echo 65535 9223372036854775808 9223372036854775808 1 2 3 4\n")
+        os.chmod(path, 0o755)
+        ran = process("totals", "--csv", data=TRACE, env=dict(os.environ, EGRYNNOL_LIBEXEC=self.place))
+        self.assertEqual(ran, (0, (self.HEAD + "18446744073709551,0,65535,9223372036854775808,9223372036854775808,1,2,3,4\n").encode(), ""))
+
+
 class Help(Folder):
 
     def test_help_of_each(self):
@@ -579,6 +686,8 @@ class Help(Folder):
             options = {words[-1] for words in (action.option_strings for action in parser._actions) if words}
             self.assertEqual(self.complete(TOOL, name, "-"), options, name)
         self.assertEqual(self.complete(TOOL, "records", "--j"), {"--json"})
+        self.assertEqual(self.complete(TOOL, "t"), {"totals"})
+        self.assertEqual(self.complete(TOOL, "totals", "--c"), {"--csv"})
 
 
 class Sweep(Folder):
@@ -609,7 +718,7 @@ class Sweep(Folder):
             self.assertIsNone(FAULTS.search(ran.err), (words, data, ran.err))
             self.assertEqual(ran.status == 1, ran.err != "" and "note: " not in ran.err, (words, data, ran))
             seen.add((words[0], ran.status))
-        for name in ("replay", "records", "explain"):
+        for name in ("replay", "records", "totals", "explain"):
             self.assertTrue({(name, 0), (name, 1), (name, 3)} <= seen, seen)
 
     def test_no_traceback_on_any_words(self):

@@ -132,6 +132,8 @@ def some_trace(chance):
     many = chance.random() < 0.1
     octets += b"".join(some_event(chance) for _ in range(chance.randrange(40)))
     octets += b"".join(segment(chance, 9, [0x83, 0x80, 0x41, 128 + k], b"\7") for k in range(20 if many else 0))
+    crowd = chance.random() < 0.05
+    octets += b"".join(segment(chance, 100 + k, [0x83, 0x80, 0xC0], b"\7") for k in range(70 if crowd else 0))
     octets += b"".join(some_event(chance) for _ in range(chance.randrange(10)))
     return octets + chance.choice([b"", b"", b"", b"\1\0\5", b"\7", b"\x21\0"])
 
@@ -154,7 +156,7 @@ class Agrees(unittest.TestCase):
             self.assertEqual(lines_in_words(text), lines, octets.hex())
             self.assertEqual(status, 3 if lines[-1:] == ["stop"] else 0)
             met |= set(re.findall(r"refused \d+|cause \d|saved in place 15|dropped|held|stop,|    delivered", text))
-        wanted = {"refused %d" % number for number in (1, 5, 6, 7, 8, 9, 10, 11, 12, 13)} | {"cause %d" % number for number in (1, 2, 3, 4, 6, 7)}
+        wanted = {"refused %d" % number for number in (1, 5, 6, 7, 8, 9, 10, 11, 12, 13, 21)} | {"cause %d" % number for number in (1, 2, 3, 4, 6, 7)}
         wanted |= {"saved in place 15", "dropped", "held", "stop,", "    delivered"}
         self.assertEqual(wanted - met if RUNS >= 1000 else set(), set(), "not met")
 

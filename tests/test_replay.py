@@ -158,6 +158,20 @@ class Cases(unittest.TestCase):
         self.from_open(octets + clock(100) + segment("83804190AA"), *lines, "clock 0 16 0 16", "segment 0 0 0 0")
         self.from_open(octets + release(8) + release(9), *lines, "release 0 0 0 0", "release 0 16 0 16")
 
+    def test_sixty_five_associations(self):
+        """Who has no row is refused by 21, whatever the segment is: after what reading refuses, and after 10."""
+        many = b"".join(segment("8380C0AA", k) for k in range(65534, 65470, -1))
+        lines = ["segment 0 1 1 0"] * 64
+        self.from_open(many + segment("8380C0AA", 0), *lines, "segment 21 0 0 0")
+        self.from_open(many + segment("83804185AA", 0) + segment("83800085AA", 0) + segment("83804A85AA", 0) + segment("8580C0AA", 0) + segment("8380", 0),
+                       *lines, *["segment 21 0 0 0"] * 3, "segment 8 0 0 0", "segment 5 0 0 0")
+        self.from_open(many + segment("83804185AA", 65500) + release(65500) + release(0) + segment("8380C0AA", 0) + segment("8380C0AA", 65500),
+                       *lines, "segment 0 0 0 0", "release 0 1 0 1", "release 0 0 0 0", "segment 21 0 0 0", "segment 0 1 1 0")
+        full = b"".join(segment("838041%02XAA" % (128 + k), 65534) for k in range(16))
+        self.from_open(many + full + segment("83804185AA", 0) + segment("8380C0AA", 0), *lines, *["segment 0 0 0 0"] * 16, "segment 10 0 0 0", "segment 21 0 0 0")
+        for timer, number in ((100, 0), (0, 12)):
+            self.from_open(many + opening(timer) + opening() + segment("8380C0AA", 0), *lines, "open %d 0 0 0" % number, "open 0 0 0 0", "segment 0 1 1 0")
+
     def test_origins_apart(self):
         self.from_open(segment("8480418502000700AA") + segment("848041850107" + "00BB") + segment("8480008502000700CC") + segment("848000850107" + "00DDEE"),
                        "segment 0 0 0 0", "segment 0 0 0 0", "segment 0 1 2 0", "segment 0 1 3 0")

@@ -1,7 +1,7 @@
 #!/usr/bin/env python3
 """The programs where reading or writing fails, and where they are given arguments: told on standard error, and nothing passed over.
 
-    python3 tests/test_streams.py            REPLAY, RECORDS and LOOPED are the programs; without them, those of target/bin
+    python3 tests/test_streams.py            REPLAY, RECORDS, TOTALS and LOOPED are the programs; without them, those of target/bin
     python3 tests/test_streams.py Answers    one class of tests
 
 A program installs no signal handler, so no signal from outside makes a read or a write of its answer EINTR. In the class Answers the system
@@ -14,6 +14,7 @@ import fcntl
 import itertools
 import os
 import platform
+import re
 import resource
 import select
 import signal
@@ -27,28 +28,30 @@ import unittest
 HERE = os.path.dirname(os.path.abspath(__file__))
 REPLAY = os.environ.get("REPLAY", os.path.join(HERE, "..", "target", "bin", "replay"))
 RECORDS = os.environ.get("RECORDS", os.path.join(HERE, "..", "target", "bin", "records"))
+TOTALS = os.environ.get("TOTALS", os.path.join(HERE, "..", "target", "bin", "totals"))
 LOOPED = os.environ.get("LOOPED", os.path.join(HERE, "..", "target", "bin", "looped"))
 
 USAGE = {
     "replay": "usage: replay < TRACE\nA trace in octets on standard input; its lines on standard output. See egrynnol(1).\n",
     "records": "usage: records < TRACE\nA trace in octets on standard input; its events and their records on standard output. See egrynnol(1).\n",
+    "totals": "usage: totals < TRACE\nA trace in octets on standard input; the totals of each opening on standard output. See egrynnol(1).\n",
     "looped": "usage: looped < DATA\n",
 }
 
 
 def example(name):
-    """An example's trace in octets, and what replay and records print of it."""
+    """An example's trace in octets, and what replay, records and totals print of it."""
     there = os.path.join(HERE, "..", "examples", name)
     octets = subprocess.run([os.path.join(HERE, "..", "tools", "egrynnol"), "encode", there + ".trace"], stdout=subprocess.PIPE, check=True).stdout
-    with open(there + ".out", "rb") as out, open(there + ".records", "rb") as records:
-        return octets, out.read(), records.read()
+    with open(there + ".out", "rb") as out, open(there + ".records", "rb") as records, open(there + ".totals", "rb") as totals:
+        return octets, out.read(), records.read(), totals.read()
 
 
-TRACE, LINES, TOLD = example("origins")
+TRACE, LINES, TOLD, BILL = example("origins")
 DATA = bytes(range(256)) * 8
 
 # name, command, good input, what is printed of it
-PROGRAMS = (("replay", REPLAY, TRACE, LINES), ("records", RECORDS, TRACE, TOLD), ("looped", LOOPED, DATA, DATA))
+PROGRAMS = (("replay", REPLAY, TRACE, LINES), ("records", RECORDS, TRACE, TOLD), ("totals", TOTALS, TRACE, BILL), ("looped", LOOPED, DATA, DATA))
 
 
 class Streams(unittest.TestCase):
@@ -129,6 +132,9 @@ class Cases(Streams):
         with open("/dev/full", "wb") as full:
             self.fails("replay", "write", errno.ENOSPC, self.run_on(REPLAY, stdin, stdout=full))
             self.assertLess(os.lseek(stdin.fileno(), 0, os.SEEK_CUR), len(clocks), "standard input was read on")
+            stdin = self.file(bytes([32, 0, 0, 0, 100, 0, 0, 0, 0]) * 20000)
+            self.fails("totals", "write", errno.ENOSPC, self.run_on(TOTALS, stdin, stdout=full))
+            self.assertLess(os.lseek(stdin.fileno(), 0, os.SEEK_CUR), 180000, "standard input was read on")
             self.fails("looped", "write", errno.ENOSPC, self.run_on(LOOPED, self.file(bytes(2049)), stdout=full))
 
     def test_output_that_fills_up(self):
@@ -203,11 +209,16 @@ class Cases(Streams):
                 self.fails(name, "read", errno.EAGAIN, self.run_after(command, b""))
 
     def test_failure_after_a_part(self):
-        """replay has printed the lines of what it read, and no 'stop', even inside a record; nor has records told what is held; looped, which needs all its input, nothing."""
+        """replay has printed the lines of what it read, and no 'stop', even inside a record; nor has records told what is held; nor totals the rows of the last opening; looped, which needs
+        all its input, nothing."""
         self.fails("replay", "read", errno.EAGAIN, self.run_after(REPLAY, TRACE), LINES)
         self.fails("replay", "read", errno.EAGAIN, self.run_after(REPLAY, TRACE + b"\x22\x00"), LINES)
         self.fails("records", "read", errno.EAGAIN, self.run_after(RECORDS, TRACE + b"\x22\x00"), TOLD)
         self.fails("records", "read", errno.EAGAIN, self.run_after(RECORDS, TRACE[:271]), TOLD[:TOLD.index(b"segment 0 0 0 0 3")])
+        for octets, before in ((TRACE, b""), (TRACE + b"\x22\x00", b""), (TRACE + TRACE[3:12], BILL)):
+            out, *rest = self.run_after(TOTALS, octets)
+            self.assertEqual(re.sub(rb"opening \d+ 0\n\Z", b"", out), before)  # a heading may be there before its rows
+            self.assertEqual(rest, [told("totals", "read", errno.EAGAIN), 0])
         self.fails("looped", "read", errno.EAGAIN, self.run_after(LOOPED, DATA[:100]))
 
 
@@ -321,7 +332,7 @@ class Answers(Streams):
 
 
 if __name__ == "__main__":
-    for command in (REPLAY, RECORDS, LOOPED):
+    for command in (REPLAY, RECORDS, TOTALS, LOOPED):
         if not os.access(command, os.X_OK):
-            sys.exit("tests/test_streams.py: no program at %s: build it, or set REPLAY, RECORDS and LOOPED" % command)
+            sys.exit("tests/test_streams.py: no program at %s: build it, or set REPLAY, RECORDS, TOTALS and LOOPED" % command)
     unittest.main()

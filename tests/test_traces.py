@@ -280,7 +280,7 @@ class BadText(unittest.TestCase):
 
     def test_the_others_name_the_lines_too(self):
         """And nothing is run: a text is good as a whole, or not at all."""
-        for words_ in (["explain"], ["replay"], ["records"], ["records", "--json"]):
+        for words_ in (["explain"], ["replay"], ["records"], ["records", "--json"], ["totals"]):
             ran = run(*words_, data=b"clock 1\nclock x\nclock 2\nopen\n")
             self.assertEqual((ran.status, ran.out), (1, b""))
             self.assertEqual(ran.err, "standard input:2: clock: time: 'x' is not a decimal number\nstandard input:4: open: the number for T is missing\n")
@@ -461,6 +461,8 @@ class Explained(unittest.TestCase):
             "at the end:\n    held, still open and in no record: 2 octets in 1 segment; association 8, context 3, reference 7, instruction 0, no originating address\n"), text)
         full = run("explain", example("full-table")).out.decode()
         self.assertIn("    refused 10: %s\n" % words.REFUSALS[10], full)
+        lessees = run("explain", example("lessees")).out.decode()
+        self.assertEqual(lessees.count("    refused 21: no row for a new association: 64 have one\n"), 4)
         self.assertIn("lost, cause 5 (%s): 2049 octets in 10 segments" % words.CAUSES[5], run("explain", example("longest")).out.decode())
 
     def test_octets_and_text_are_told_alike(self):
@@ -542,7 +544,7 @@ class CommandLine(unittest.TestCase):
         self.assertEqual(said, "standard input: offset 5: the record is cut: kind 35 (release) has 3 octets, here are 2\n")
 
     def test_empty_input(self):
-        for command in ("encode", "decode", "explain", "replay", "records"):
+        for command in ("encode", "decode", "explain", "replay", "records", "totals"):
             self.assertEqual(run(command), (0, b"", ""))
 
     def test_the_example_of_the_help_works_when_pasted(self):

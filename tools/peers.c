@@ -19,6 +19,7 @@
 #define LINE 8192
 
 static egrynnol_table table;
+static egrynnol_summary summary;
 static uint8_t store[EGRYNNOL_STORE];
 
 static void bad(const char *what)
@@ -80,7 +81,7 @@ static void open_line(void)
         registry[length++] = (uint8_t)(context >> 8);
         registry[length++] = (uint8_t)context;
     }
-    egrynnol_opened opened = egrynnol_opening(registry, length, EGRYNNOL_TIMER_MOST, 0);
+    egrynnol_opened opened = egrynnol_opening(&summary, registry, length, EGRYNNOL_TIMER_MOST, 0);
     table = opened.table;
     printf("open %d\n", opened.refusal);
 }
@@ -124,7 +125,7 @@ static void receive_line(void)
     uint8_t parameter[EGRYNNOL_PARAMETER], report[EGRYNNOL_REPORT_SEGMENT];
     uint16_t association = (uint16_t)number(word());
     size_t length = octets(parameter, sizeof parameter);
-    egrynnol_received got = egrynnol_segment(table, store, sizeof store, report, sizeof report,
+    egrynnol_received got = egrynnol_segment(table, &summary, store, sizeof store, report, sizeof report,
                                              association, parameter, length);
     table = got.table;
     switch (got.decision.kind) {

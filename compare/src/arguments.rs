@@ -5,7 +5,7 @@ use std::path::PathBuf;
 use model::Fault;
 
 pub const HELP: &str = "\
-compare: the proved library against a second implementation of document 01, call by call
+compare: the proved library against a second implementation of its documents, call by call
 
   compare [OPTIONS]
 
@@ -14,6 +14,7 @@ compare: the proved library against a second implementation of document 01, call
                      and from 100000 on some short ranges are gone through from end to end
   --replay PATH      the replay program (default ../target/bin/replay beside this crate)
   --records PATH     the records program (default ../target/bin/records beside this crate)
+  --totals PATH      the totals program (default ../target/bin/totals beside this crate)
   --show N           prints the input of call N before it is made
   --calls-only       no traces
   --traces-only      traces alone, as many as --calls would give
@@ -29,6 +30,7 @@ met often enough; 1: otherwise; 2: the command line is wrong.
 
 const REPLAY: &str = concat!(env!("CARGO_MANIFEST_DIR"), "/../target/bin/replay");
 const RECORDS: &str = concat!(env!("CARGO_MANIFEST_DIR"), "/../target/bin/records");
+const TOTALS: &str = concat!(env!("CARGO_MANIFEST_DIR"), "/../target/bin/totals");
 
 pub enum Task {
     Help,
@@ -44,6 +46,7 @@ pub struct Arguments {
     pub show: Option<u64>,
     pub replay: PathBuf,
     pub records: PathBuf,
+    pub totals: PathBuf,
     pub against: String,
     pub only_calls: bool,
     pub only_traces: bool,
@@ -58,6 +61,7 @@ impl Arguments {
             show: None,
             replay: REPLAY.into(),
             records: RECORDS.into(),
+            totals: TOTALS.into(),
             against: "library".into(),
             only_calls: false,
             only_traces: false,
@@ -70,6 +74,7 @@ impl Arguments {
                 "--show" => arguments.show = Some(number(&value()?)?),
                 "--replay" => arguments.replay = value()?.into(),
                 "--records" => arguments.records = value()?.into(),
+                "--totals" => arguments.totals = value()?.into(),
                 "--against" => arguments.against = value()?,
                 "--calls-only" => arguments.only_calls = true,
                 "--traces-only" => arguments.only_traces = true,
@@ -105,12 +110,12 @@ impl Arguments {
 
 impl Arguments {
     /// The programs that traces are given to.
-    pub fn programs(&self) -> [PathBuf; 2] {
-        [self.replay.clone(), self.records.clone()]
+    pub fn programs(&self) -> [PathBuf; 3] {
+        [&self.replay, &self.records, &self.totals].map(PathBuf::clone)
     }
 
     fn check_programs(&self) -> Result<(), String> {
-        for (name, path) in [("replay", &self.replay), ("records", &self.records)] {
+        for (name, path) in ["replay", "records", "totals"].into_iter().zip(self.programs()) {
             if !path.is_file() {
                 let path = path.display();
                 return Err(format!("no {name} program at {path}: give --{name}, or --calls-only"));

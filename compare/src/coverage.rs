@@ -4,22 +4,38 @@ use std::fmt;
 
 use crate::cases::Case;
 use crate::input::{Answer, Input, CALLS};
+use crate::summaries::{self, RULES as SUMMARY_RULES};
+use crate::traces;
 use crate::unsound::RULES;
 use model::*;
+
+/// Of more kinds than this, only the rarest is shown.
+const MOST_SHOWN: usize = RULES.len() + SUMMARY_RULES.len();
 
 /// The refusals of each call, in its order.
 const ORDERS: [&[u8]; 6] = [
     &[12, 11],
-    &[1, 2, 3, 4, 5, 6, 7, 8, 9, 10],
-    &[1, 3, 13],
-    &[1, 3],
+    &[1, 2, 3, 4, 5, 6, 7, 8, 9, 10, 21, 22],
+    &[1, 3, 13, 22],
+    &[1, 3, 22],
     &[],
     &[1, 8, 14, 9, 15, 17, 16, 18, 19, 20],
 ];
 
 /// Pairs of refusals that cannot hold at once: a parameter over 255 has room for all its fields,
-/// and a context that is not registered is not one of 1998.
-const APART: [(usize, u8, u8); 2] = [(1, 4, 5), (5, 8, 15)];
+/// an association that has no row has no total, and a context that is not registered is not one
+/// of 1998.
+const APART: [(usize, u8, u8); 3] = [(1, 4, 5), (1, 21, 22), (5, 8, 15)];
+
+/// What a call does to a summary.
+const ROWS_MET: [&str; 6] = [
+    "association 0 gains",
+    "first row of an association",
+    "first row, between used ones",
+    "total becomes 2^63",
+    "total past 2^63 stays beside one that grows",
+    "losses refused only together",
+];
 
 const LINES: [&str; 10] = [
     "unsegmented",
@@ -35,10 +51,13 @@ const LINES: [&str; 10] = [
 ];
 
 /// The refusals that a trace can lead to: its areas and parameters are never too short or long.
-const IN_TRACES: [u8; 11] = [0, 1, 5, 6, 7, 8, 9, 10, 11, 12, 13];
+const IN_TRACES: [u8; 12] = [0, 1, 5, 6, 7, 8, 9, 10, 11, 12, 13, 21];
 
 /// What the records program tells under the lines of the events, and after them.
 const UNDER: [&str; 4] = ["delivered", "lost", "dropped", "held"];
+
+/// The used rows that an opening comes to.
+const OPENINGS: [&str; 4] = ["refused", "none", "1 to 63", "64"];
 
 /// Counters that are shown and checked together.
 struct Tally {
@@ -81,7 +100,7 @@ impl Tally {
 
 impl fmt::Display for Tally {
     fn fmt(&self, f: &mut fmt::Formatter) -> fmt::Result {
-        if self.names.len() > RULES.len() {
+        if self.names.len() > MOST_SHOWN {
             let rarest = self.met.iter().min().unwrap_or(&0);
             return writeln!(f, "{}: {} kinds, the rarest {rarest}", self.title, self.met.len());
         }
@@ -98,12 +117,14 @@ pub struct Coverage {
     lines: Tally,
     causes: Tally,
     rules: Tally,
+    rows: Tally,
     parts: Tally,
     counts: Tally,
     lengths: Tally,
     trace_lines: Tally,
     trace_ends: Tally,
     trace_records: Tally,
+    trace_openings: Tally,
     trips: Tally,
     trip_counts: Tally,
     pub exhaustive: u64,
@@ -138,13 +159,15 @@ impl Coverage {
             pairs: std::array::from_fn(pairs),
             lines: Tally::new("receiving lines", LINES),
             causes: Tally::new("causes", 1..=7),
-            rules: Tally::new("unsound tables", RULES),
+            rules: Tally::new("unsound tables and summaries", RULES.iter().chain(&SUMMARY_RULES)),
+            rows: Tally::new("rows of summaries", ROWS_MET),
             parts: Tally::new("deliveries", ["empty", "of the parameter", "of the store"]),
             counts: Tally::new("sent, by count of segments", 1..=SEGMENTS),
             lengths: Tally::seldom("lengths of parameters", (0..=256).chain([257, 300])),
             trace_lines: Tally::seldom("lines of traces by refusal", IN_TRACES),
             trace_ends: Tally::seldom("traces", ["to the end", "stopped"]),
             trace_records: Tally::seldom("lines under events, by name", UNDER),
+            trace_openings: Tally::seldom("openings, by their used rows", OPENINGS),
             trips: Tally::new("round trips", ["cut by the model", "cut by the library"]),
             trip_counts: Tally::new("round trips, by count of segments", 1..=SEGMENTS),
             exhaustive: 0,
@@ -152,14 +175,22 @@ impl Coverage {
     }
 
     fn of_calls(&self) -> impl Iterator<Item = &Tally> {
-        let rest =
-            [&self.lines, &self.causes, &self.parts, &self.rules, &self.counts, &self.lengths];
+        let rest = [
+            &self.lines,
+            &self.causes,
+            &self.parts,
+            &self.rules,
+            &self.rows,
+            &self.counts,
+            &self.lengths,
+        ];
         let calls = std::iter::once(&self.calls).chain(&self.refusals).chain(&self.pairs);
         calls.chain(rest).chain([&self.trips, &self.trip_counts])
     }
 
     fn of_traces(&self) -> impl Iterator<Item = &Tally> {
-        [&self.trace_lines, &self.trace_ends, &self.trace_records].into_iter()
+        let records = [&self.trace_records, &self.trace_openings];
+        [&self.trace_lines, &self.trace_ends].into_iter().chain(records)
     }
 
     pub fn calls(&self) -> u64 {
@@ -195,7 +226,8 @@ impl fmt::Display for Coverage {
 }
 
 impl Coverage {
-    pub fn count(&mut self, case: &Case, answer: &Answer) {
+    /// The summary is the one that the call left.
+    pub fn count(&mut self, case: &Case, answer: &Answer, summary: &Summary) {
         let call = case.input.call();
         let number = ORDERS[call].iter().position(|number| *number == answer.refusal());
         self.calls.add(call, 1);
@@ -206,6 +238,10 @@ impl Coverage {
         }
         if let Some(rule) = case.rule {
             self.rules.add(rule, 1);
+        }
+        self.rows.add(5, case.together.into());
+        if let Some(before) = case.input.summary().filter(|_| call > 0 && answer.refusal() == 0) {
+            self.rows(before, summary);
         }
         if let Input::Segment { parameter, .. } = &case.input {
             self.lengths.add(parameter.len().min(258), 1);
@@ -224,6 +260,26 @@ impl Coverage {
                 self.counts.add(usize::from(sent.count) - 1, 1)
             }
             _ => {}
+        }
+    }
+
+    /// The rows that a call has changed.
+    fn rows(&mut self, before: &Summary, after: &Summary) {
+        for row in 0..ROWS {
+            let [old, new] = [before, after].map(|summary| summaries::numbers(summary, row));
+            if old == new {
+                continue;
+            }
+            let grown = |at: usize| old[at] < new[at];
+            let mut totals = 2..old.len();
+            let met = [
+                new[1] == 0,
+                grown(0),
+                grown(0) && after.mark[row + 1..].contains(&1),
+                totals.clone().any(|at| grown(at) && new[at] == TOTAL_MOST),
+                totals.any(|at| !grown(at) && new[at] > TOTAL_MOST),
+            ];
+            met.iter().enumerate().for_each(|(at, met)| self.rows.add(at, (*met).into()));
         }
     }
 
@@ -258,8 +314,17 @@ impl Coverage {
         }
     }
 
-    /// The texts of the replay program and of the records program.
-    pub fn count_trace(&mut self, text: &str, records: &str) {
+    /// The texts of the replay program, of the records program and of the totals program.
+    pub fn count_trace(&mut self, [text, records, totals]: &[String; 3]) {
+        for (heading, rows) in traces::openings(totals) {
+            let index = match rows.len() {
+                _ if !heading.ends_with(" 0") => 0,
+                0 => 1,
+                1..=63 => 2,
+                _ => 3,
+            };
+            self.trace_openings.add(index, 1);
+        }
         let names = records.lines().filter_map(|line| line.split(' ').next());
         let under = names.filter(|name| UNDER.contains(name));
         under.for_each(|name| self.trace_records.add_named(name));

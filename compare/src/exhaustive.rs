@@ -1,5 +1,6 @@
 //! Short ranges gone through from end to end, where chance might miss one value.
 
+use crate::billed;
 use crate::input::Input;
 use crate::pair::Pair;
 use crate::random::Random;
@@ -26,6 +27,26 @@ fn table() -> Table {
     table
 }
 
+/// Association 9 has a row, and two others have: unused rows lie before and between them.
+fn summary() -> Box<Summary> {
+    let mut summary = Summary::EMPTY;
+    for (row, association) in [(3, 9), (31, 0), (62, 65_535)] {
+        (summary.mark[row], summary.association[row]) = (1, association);
+        summary.totals.iter_mut().for_each(|column| column[row] = 1_000 + association);
+    }
+    Box::new(summary)
+}
+
+/// This many used rows, from the first on: association 9's and those from 100 on.
+fn crowded(count: usize) -> Box<Summary> {
+    let mut summary = Summary::EMPTY;
+    for row in 0..count {
+        summary.mark[row] = 1;
+        summary.association[row] = if row == 0 { 9 } else { 100 + row as u64 };
+    }
+    Box::new(summary)
+}
+
 pub struct Exhaustive<'p, 'a> {
     pub pair: &'p mut Pair<'a>,
     pub random: &'p mut Random,
@@ -38,12 +59,33 @@ impl Exhaustive<'_, '_> {
         self.headers(&[0x84, 0x80, 0x03, 0x85, 0x02, 0x00, 0x07, 0x01, 0x07, 0xAA])?;
         self.counts()?;
         self.fields()?;
-        self.rooms()
+        self.rooms()?;
+        self.bits()?;
+        self.rows()
     }
 
     fn run(&mut self, input: Input) -> Result<(), String> {
         self.calls += 1;
-        self.pair.run(&input, self.random).map(|_| ())
+        let answer = self.pair.run(&input, self.random)?;
+        match billed::wrong(&input, &answer, self.pair.summary(), self.pair.report()) {
+            None => Ok(()),
+            Some(wrong) => Err(format!("{input}{wrong}")),
+        }
+    }
+
+    fn segment(
+        &mut self,
+        table: Table,
+        summary: Box<Summary>,
+        association: u16,
+        parameter: Vec<u8>,
+    ) -> Result<(), String> {
+        let (store, report) = (STORE, RECORD);
+        self.run(Input::Segment { table, summary, store, report, association, parameter })
+    }
+
+    fn release(&mut self, table: Table, summary: Box<Summary>) -> Result<(), String> {
+        self.run(Input::Release { table, summary, report: SWEEP, association: 9 })
     }
 
     /// Every value of every two neighbouring octets of a good header.
@@ -53,8 +95,7 @@ impl Exhaustive<'_, '_> {
             for value in 0..=u16::MAX {
                 let mut parameter = good.to_vec();
                 parameter[at..at + 2].copy_from_slice(&value.to_be_bytes());
-                let (store, report) = (STORE, RECORD);
-                self.run(Input::Segment { table, store, report, association: 9, parameter })?;
+                self.segment(table, summary(), 9, parameter)?;
             }
         }
         Ok(())
@@ -65,7 +106,7 @@ impl Exhaustive<'_, '_> {
         for value in 0..=u16::MAX {
             let mut table = table();
             [table.places[7].segments, table.places[7].remaining] = value.to_be_bytes();
-            self.run(Input::Release { table, report: SWEEP, association: 9 })?;
+            self.release(table, summary())?;
         }
         Ok(())
     }
@@ -90,7 +131,8 @@ impl Exhaustive<'_, '_> {
                     8 => table.registry[5].kind = octet,
                     _ => table.registry[6].kind = octet,
                 }
-                self.run(Input::Clock { table, report: SWEEP, time: 60 })?;
+                let summary = summary();
+                self.run(Input::Clock { table, summary, report: SWEEP, time: 60 })?;
             }
         }
         Ok(())
@@ -111,6 +153,45 @@ impl Exhaustive<'_, '_> {
                 let table = table();
                 self.run(Input::Sending { table, request, origin, destination, data, area })?;
             }
+        }
+        Ok(())
+    }
+
+    /// Every bit of every number of a summary, turned.
+    fn bits(&mut self) -> Result<(), String> {
+        for (row, column) in (0..ROWS).flat_map(|row| (0..2 + TOTALS.len()).map(move |c| (row, c)))
+        {
+            for bit in 0..64 {
+                let mut summary = summary();
+                let column = match column {
+                    0 => &mut summary.mark,
+                    1 => &mut summary.association,
+                    _ => &mut summary.totals[column - 2],
+                };
+                column[row] ^= 1 << bit;
+                self.release(table(), summary)?;
+            }
+        }
+        Ok(())
+    }
+
+    /// Every two rows with one association; every count of used rows before an association's first
+    /// segment and beside a later one; every association.
+    fn rows(&mut self) -> Result<(), String> {
+        for (first, second) in (0..ROWS).flat_map(|i| (0..i).map(move |j| (i, j))) {
+            let mut summary = crowded(ROWS);
+            summary.association[first] = summary.association[second];
+            self.release(table(), summary)?;
+        }
+        for count in 1..=ROWS {
+            for association in [0, 9, 101, 100 + count as u16 - 1, 100 + count as u16] {
+                let parameter = vec![0x83, 0x80, 0xC0, 0xAA, 0xBB];
+                self.segment(table(), crowded(count), association, parameter)?;
+            }
+        }
+        for association in 0..=u16::MAX {
+            let parameter = vec![0x83, 0x80, 0x41, 0x85, 0xAA];
+            self.segment(table(), crowded(20), association, parameter)?;
         }
         Ok(())
     }

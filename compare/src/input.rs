@@ -2,10 +2,12 @@
 
 use std::fmt;
 
+use crate::summaries;
 use model::*;
 
 pub enum Input {
     Opening {
+        summary: Box<Summary>,
         registry: Vec<u8>,
         timer: u32,
         clock: u32,
@@ -13,6 +15,7 @@ pub enum Input {
     /// `store` and `report` are lengths, here and below: what the areas hold is never looked at.
     Segment {
         table: Table,
+        summary: Box<Summary>,
         store: usize,
         report: usize,
         association: u16,
@@ -20,11 +23,13 @@ pub enum Input {
     },
     Clock {
         table: Table,
+        summary: Box<Summary>,
         report: usize,
         time: u32,
     },
     Release {
         table: Table,
+        summary: Box<Summary>,
         report: usize,
         association: u16,
     },
@@ -75,6 +80,16 @@ impl Input {
             | Input::Clock { table, .. }
             | Input::Release { table, .. }
             | Input::Sending { table, .. } => Some(table),
+        }
+    }
+
+    pub fn summary(&self) -> Option<&Summary> {
+        match self {
+            Input::Delivery { .. } | Input::Sending { .. } => None,
+            Input::Opening { summary, .. }
+            | Input::Segment { summary, .. }
+            | Input::Clock { summary, .. }
+            | Input::Release { summary, .. } => Some(summary),
         }
     }
 }
@@ -135,8 +150,11 @@ impl fmt::Display for Input {
         if let Some(table) = self.table() {
             writeln!(f, "table (octets in memory): {}", table_hex(table))?;
         }
+        if let Some(summary) = self.summary() {
+            write!(f, "{}", summaries::text(summary))?;
+        }
         match self {
-            Input::Opening { registry, timer, clock } => {
+            Input::Opening { registry, timer, clock, .. } => {
                 writeln!(f, "registry: {}\ntimer: {timer}\nclock: {clock}", hex(registry))
             }
             Input::Segment { store, report, association, parameter, .. } => {

@@ -31,4 +31,6 @@ const _: () = {
     assert!(offset_of!(Sent, length) == 2);
     assert!(size_of::<Part>() == 24 && offset_of!(Part, length) == 8);
     assert!(offset_of!(Part, source) == 16);
+    assert!(size_of::<Summary>() == 4_096 && offset_of!(Summary, association) == 512);
+    assert!(offset_of!(Summary, totals) == 1_024 && size_of::<[u64; ROWS]>() == 512);
 };

@@ -1,17 +1,24 @@
 //! The proved library, linked as libegrynnol.a. A lent slice goes as a pointer and a length; the
-//! pointer of an empty slice is never null, as Rust has it. A symbol has the interface's number,
-//! as in include/egrynnol.h.
+//! pointer of an empty slice is never null, as Rust has it. A summary goes as a pointer alone. A
+//! symbol has the interface's number, as in include/egrynnol.h.
 
 use crate::side::Side;
 use model::*;
 
 #[link(name = "egrynnol", kind = "static")]
 extern "C" {
-    #[link_name = "egrynnol_1_opening"]
-    pub fn egrynnol_opening(registry: *const u8, length: usize, timer: u32, clock: u32) -> Opened;
-    #[link_name = "egrynnol_1_segment"]
+    #[link_name = "egrynnol_2_opening"]
+    pub fn egrynnol_opening(
+        summary: *mut Summary,
+        registry: *const u8,
+        length: usize,
+        timer: u32,
+        clock: u32,
+    ) -> Opened;
+    #[link_name = "egrynnol_2_segment"]
     pub fn egrynnol_segment(
         table: Table,
+        summary: *mut Summary,
         store: *mut u8,
         store_length: usize,
         report: *mut u8,
@@ -20,16 +27,23 @@ extern "C" {
         parameter: *const u8,
         parameter_length: usize,
     ) -> Received;
-    #[link_name = "egrynnol_1_clock"]
-    pub fn egrynnol_clock(table: Table, report: *mut u8, length: usize, time: u32) -> Swept;
-    #[link_name = "egrynnol_1_release"]
+    #[link_name = "egrynnol_2_clock"]
+    pub fn egrynnol_clock(
+        table: Table,
+        summary: *mut Summary,
+        report: *mut u8,
+        length: usize,
+        time: u32,
+    ) -> Swept;
+    #[link_name = "egrynnol_2_release"]
     pub fn egrynnol_release(
         table: Table,
+        summary: *mut Summary,
         report: *mut u8,
         length: usize,
         association: u16,
     ) -> Swept;
-    #[link_name = "egrynnol_1_delivery"]
+    #[link_name = "egrynnol_2_delivery"]
     pub fn egrynnol_delivery(
         decision: Decision,
         parameter: *const u8,
@@ -37,7 +51,7 @@ extern "C" {
         store: *const u8,
         store_length: usize,
     ) -> Part;
-    #[link_name = "egrynnol_1_sending"]
+    #[link_name = "egrynnol_2_sending"]
     pub fn egrynnol_sending(
         table: Table,
         request: Request,
@@ -54,16 +68,17 @@ extern "C" {
 
 pub struct Library;
 
-// SAFETY, for every call: the pointers and lengths come from live slices of this program, the
-// written ones are lent exclusively, and the shapes are those asserted in `layout`.
+// SAFETY, for every call: the pointers and lengths come from live slices and summaries of this
+// program, the written ones are lent exclusively, and the shapes are those asserted in `layout`.
 impl Side for Library {
-    fn opening(&self, registry: &[u8], timer: u32, clock: u32) -> Opened {
-        unsafe { egrynnol_opening(registry.as_ptr(), registry.len(), timer, clock) }
+    fn opening(&self, summary: &mut Summary, registry: &[u8], timer: u32, clock: u32) -> Opened {
+        unsafe { egrynnol_opening(summary, registry.as_ptr(), registry.len(), timer, clock) }
     }
 
     fn segment(
         &self,
         table: Table,
+        summary: &mut Summary,
         store: &mut [u8],
         report: &mut [u8],
         association: u16,
@@ -72,6 +87,7 @@ impl Side for Library {
         unsafe {
             egrynnol_segment(
                 table,
+                summary,
                 store.as_mut_ptr(),
                 store.len(),
                 report.as_mut_ptr(),
@@ -83,12 +99,18 @@ impl Side for Library {
         }
     }
 
-    fn clock(&self, table: Table, report: &mut [u8], time: u32) -> Swept {
-        unsafe { egrynnol_clock(table, report.as_mut_ptr(), report.len(), time) }
+    fn clock(&self, table: Table, summary: &mut Summary, report: &mut [u8], time: u32) -> Swept {
+        unsafe { egrynnol_clock(table, summary, report.as_mut_ptr(), report.len(), time) }
     }
 
-    fn release(&self, table: Table, report: &mut [u8], association: u16) -> Swept {
-        unsafe { egrynnol_release(table, report.as_mut_ptr(), report.len(), association) }
+    fn release(
+        &self,
+        table: Table,
+        summary: &mut Summary,
+        report: &mut [u8],
+        association: u16,
+    ) -> Swept {
+        unsafe { egrynnol_release(table, summary, report.as_mut_ptr(), report.len(), association) }
     }
 
     fn delivery(&self, decision: Decision, parameter: &[u8], store: &[u8]) -> Part {

@@ -1,6 +1,7 @@
 //! Compares the model with the proved library, call by call, and shows that it can fail.
 
 mod arguments;
+mod billed;
 mod cases;
 mod coverage;
 mod exhaustive;
@@ -18,6 +19,7 @@ mod random;
 mod run;
 mod scene;
 mod side;
+mod summaries;
 mod tables;
 mod traces;
 mod trips;

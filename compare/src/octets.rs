@@ -24,6 +24,10 @@ impl Fields<'_> {
         u32::from_le_bytes(self.take())
     }
 
+    fn long(&mut self) -> u64 {
+        u64::from_le_bytes(self.take())
+    }
+
     fn size(&mut self) -> usize {
         usize::from_le_bytes(self.take())
     }
@@ -142,6 +146,21 @@ impl Shape for Sent {
     }
 }
 
+impl Shape for Summary {
+    fn read(fields: &mut Fields) -> Self {
+        Summary {
+            mark: [(); ROWS].map(|()| fields.long()),
+            association: [(); ROWS].map(|()| fields.long()),
+            totals: [(); TOTALS.len()].map(|()| [(); ROWS].map(|()| fields.long())),
+        }
+    }
+}
+
+pub fn summary_octets(summary: &Summary) -> Vec<u8> {
+    let columns = [&summary.mark, &summary.association].into_iter().chain(&summary.totals);
+    columns.flatten().flat_map(|number| number.to_le_bytes()).collect()
+}
+
 pub fn decision_octets(decision: &Decision) -> Vec<u8> {
     let mut octets =
         [decision.place, decision.start, decision.length].map(usize::to_le_bytes).concat();
@@ -161,12 +180,12 @@ mod tests {
     use super::*;
     use crate::input::table_octets;
     use crate::random::Random;
-    use crate::tables;
+    use crate::{summaries, tables};
     use std::mem::size_of;
 
     /// Reads a struct of octets 0, 1, 2.. and says how many were read.
     fn counted<T: Shape>() -> (T, usize) {
-        let octets: Vec<u8> = (0..1024).map(|i| i as u8).collect();
+        let octets: Vec<u8> = (0..8192).map(|i| i as u8).collect();
         let mut fields = Fields(&octets);
         let value = T::read(&mut fields);
         (value, octets.len() - fields.0.len())
@@ -179,6 +198,7 @@ mod tests {
         assert_eq!(counted::<Swept>().1, size_of::<Swept>());
         assert_eq!(counted::<Part>().1, size_of::<Part>());
         assert_eq!(counted::<Sent>().1, size_of::<Sent>());
+        assert_eq!(counted::<Summary>().1, size_of::<Summary>());
         assert_eq!(counted::<Swept>().0.records, (617 % 256) as u8);
         assert_eq!(counted::<Received>().0.decision.place.to_le_bytes()[0], (616 % 256) as u8);
     }
@@ -193,5 +213,9 @@ mod tests {
         assert_eq!(Decision::read(&mut Fields(&decision_octets(&decision))), decision);
         assert_eq!(decision_octets(&decision).len(), size_of::<Decision>());
         assert_eq!(request_octets(&Request::default()).len(), size_of::<Request>());
+        let summary = summaries::any(&mut Random::new(3));
+        let octets = summary_octets(&summary);
+        assert_eq!(octets.len(), size_of::<Summary>());
+        assert_eq!(Summary::read(&mut Fields(&octets)), summary);
     }
 }

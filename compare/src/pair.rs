@@ -3,6 +3,8 @@
 use crate::input::{hex, Answer, Input};
 use crate::random::Random;
 use crate::side::Side;
+use crate::summaries;
+use model::{Summary, ROWS};
 
 /// Octets before and after each lent area, which no call may write.
 const GUARD: usize = 64;
@@ -10,8 +12,18 @@ const LONGEST_STORE: usize = 36_864;
 const LONGEST_REPORT: usize = 576;
 const LONGEST_AREA: usize = 384;
 
+/// A summary between guards of its own.
+#[derive(Clone, Copy, PartialEq, Eq)]
+#[repr(C)]
+struct Guarded {
+    before: [u64; GUARD / 8],
+    summary: Summary,
+    after: [u64; GUARD / 8],
+}
+
 /// What one side is lent.
 struct Lent {
+    summary: Box<Guarded>,
     store: Vec<u8>,
     report: Vec<u8>,
     area: Vec<u8>,
@@ -27,7 +39,9 @@ pub struct Pair<'a> {
 impl<'a> Pair<'a> {
     pub fn new(sides: [&'a dyn Side; 2], random: &mut Random) -> Self {
         let store = random.octets(LONGEST_STORE + 2 * GUARD);
+        let guard = [0; GUARD / 8];
         let lent = || Lent {
+            summary: Box::new(Guarded { before: guard, summary: Summary::EMPTY, after: guard }),
             store: store.clone(),
             report: vec![0; LONGEST_REPORT + 2 * GUARD],
             area: vec![0; LONGEST_AREA + 2 * GUARD],
@@ -38,9 +52,11 @@ impl<'a> Pair<'a> {
     /// The answer both sides gave, or what differs.
     pub fn run(&mut self, input: &Input, random: &mut Random) -> Result<Answer, String> {
         let start = self.refill(random);
+        self.lend(input.summary(), random);
         let [left, right] = &mut self.lent;
         let answers = [left.call(self.sides[0], input), right.call(self.sides[1], input)];
         let same = answers[0] == answers[1]
+            && self.lent[0].summary == self.lent[1].summary
             && self.lent[0].store == self.lent[1].store
             && self.lent[0].report == self.lent[1].report
             && self.lent[0].area == self.lent[1].area;
@@ -63,11 +79,33 @@ impl<'a> Pair<'a> {
         start
     }
 
+    /// The summary as it comes, and new guards. A call that is not given one gets none to change.
+    fn lend(&mut self, summary: Option<&Summary>, random: &mut Random) {
+        let (before, after) = (random.next(), random.next());
+        for Lent { summary: guarded, .. } in &mut self.lent {
+            (guarded.before, guarded.after) = ([before; GUARD / 8], [after; GUARD / 8]);
+            if let Some(summary) = summary {
+                guarded.summary = *summary;
+            }
+        }
+    }
+
+    /// What the last call left of the summary.
+    pub fn summary(&self) -> &Summary {
+        &self.lent[1].summary.summary
+    }
+
+    /// And of the report.
+    pub fn report(&self) -> &[u8] {
+        &self.lent[1].report[GUARD..]
+    }
+
     fn difference(&self, input: &Input, answers: [Answer; 2], start: usize) -> String {
         let [left, right] = &self.lent;
         let mut text = format!("{input}model answers:   {}\n", answers[0]);
         text += &format!("library answers: {}\n", answers[1]);
         let areas = [("store", &left.store, &right.store), ("area", &left.area, &right.area)];
+        text += &summary_difference(&left.summary, &right.summary);
         for (name, left, right) in areas {
             text += &octets_difference(name, left, right);
         }
@@ -91,39 +129,49 @@ fn octets_difference(name: &str, left: &[u8], right: &[u8]) -> String {
     format!("{name} differs from octet {at} on:\n  model:   {model}\n  library: {library}\n")
 }
 
+/// The rows in which the two sides differ.
+fn summary_difference(left: &Guarded, right: &Guarded) -> String {
+    let mut text = String::new();
+    for row in 0..ROWS {
+        let [model, library] = [left, right].map(|side| summaries::numbers(&side.summary, row));
+        if model != library {
+            text += &format!("row {row} differs:\n  model:   {model:?}\n  library: {library:?}\n");
+        }
+    }
+    if (left.before, left.after) != (right.before, right.after) {
+        text += "a number beside the summary differs\n";
+    }
+    text
+}
+
 impl Lent {
     fn call(&mut self, side: &dyn Side, input: &Input) -> Answer {
-        let Lent { store, report, area } = self;
-        let (store, report) = (&mut store[GUARD..], &mut report[GUARD..]);
-        match *input {
-            Input::Opening { ref registry, timer, clock } => {
-                Answer::Opened(side.opening(registry, timer, clock))
+        let Lent { summary, store, report, area } = self;
+        let (summary, store) = (&mut summary.summary, &mut store[GUARD..]);
+        let (report, area) = (&mut report[GUARD..], &mut area[GUARD..]);
+        match input {
+            Input::Opening { registry, timer, clock, .. } => {
+                Answer::Opened(side.opening(summary, registry, *timer, *clock))
             }
-            Input::Segment { table, store: length, report: room, association, ref parameter } => {
-                let store = &mut store[..length];
-                let report = &mut report[..room];
-                let received = side.segment(table, store, report, association, parameter);
-                Answer::Received(received, side.delivery(received.decision, parameter, store))
-            }
-            Input::Clock { table, report: room, time } => {
-                Answer::Swept(side.clock(table, &mut report[..room], time))
-            }
-            Input::Release { table, report: room, association } => {
-                Answer::Swept(side.release(table, &mut report[..room], association))
-            }
-            Input::Delivery { decision, ref parameter, store: length } => {
-                Answer::Part(side.delivery(decision, parameter, &store[..length]))
-            }
-            Input::Sending {
-                table,
-                request,
-                ref origin,
-                ref destination,
-                ref data,
-                area: room,
+            Input::Segment {
+                table, store: length, report: room, association, parameter, ..
             } => {
-                let area = &mut area[GUARD..][..room];
-                Answer::Sent(side.sending(table, request, origin, destination, data, area))
+                let (store, report) = (&mut store[..*length], &mut report[..*room]);
+                let got = side.segment(*table, summary, store, report, *association, parameter);
+                Answer::Received(got, side.delivery(got.decision, parameter, store))
+            }
+            Input::Clock { table, report: room, time, .. } => {
+                Answer::Swept(side.clock(*table, summary, &mut report[..*room], *time))
+            }
+            Input::Release { table, report: room, association, .. } => {
+                Answer::Swept(side.release(*table, summary, &mut report[..*room], *association))
+            }
+            Input::Delivery { decision, parameter, store: length } => {
+                Answer::Part(side.delivery(*decision, parameter, &store[..*length]))
+            }
+            Input::Sending { table, request, origin, destination, data, area: room } => {
+                let area = &mut area[..*room];
+                Answer::Sent(side.sending(*table, *request, origin, destination, data, area))
             }
         }
     }

@@ -15,7 +15,7 @@ use std::process::{exit, Child, ChildStdin, ChildStdout, Command, Stdio};
 use std::sync::{LazyLock, Mutex};
 
 use crate::input::table_octets;
-use crate::octets::{decision_octets, request_octets, Fields, Shape};
+use crate::octets::{decision_octets, request_octets, summary_octets, Fields, Shape};
 use crate::side::Side;
 use model::*;
 
@@ -41,6 +41,7 @@ enum Call {
 /// The server keeps one area for each of them.
 #[derive(Clone, Copy)]
 enum Lent {
+    Summary,
     Registry,
     Store,
     Report,
@@ -186,35 +187,62 @@ fn call<T: Shape>(
     }
 }
 
+/// A summary as the octets of an area, and back.
+fn with_summary<T>(summary: &mut Summary, call: impl FnOnce(&mut [u8]) -> T) -> T {
+    let mut octets = summary_octets(summary);
+    let answer = call(&mut octets);
+    *summary = Summary::read(&mut Fields(&octets));
+    answer
+}
+
 pub struct Library;
 
 impl Side for Library {
-    fn opening(&self, registry: &[u8], timer: u32, clock: u32) -> Opened {
+    fn opening(&self, summary: &mut Summary, registry: &[u8], timer: u32, clock: u32) -> Opened {
         let values: [&[u8]; 2] = [&timer.to_le_bytes(), &clock.to_le_bytes()];
-        call(Call::Opening, &values, &[(Lent::Registry, registry)], &mut [])
+        with_summary(summary, |summary| {
+            let written = &mut [(Lent::Summary, summary)];
+            call(Call::Opening, &values, &[(Lent::Registry, registry)], written)
+        })
     }
 
     fn segment(
         &self,
         table: Table,
+        summary: &mut Summary,
         store: &mut [u8],
         report: &mut [u8],
         association: u16,
         parameter: &[u8],
     ) -> Received {
         let values: [&[u8]; 2] = [&table_octets(&table), &association.to_le_bytes()];
-        let written = &mut [(Lent::Store, store), (Lent::Report, report)];
-        call(Call::Segment, &values, &[(Lent::Parameter, parameter)], written)
+        with_summary(summary, |summary| {
+            let written =
+                &mut [(Lent::Summary, summary), (Lent::Store, store), (Lent::Report, report)];
+            call(Call::Segment, &values, &[(Lent::Parameter, parameter)], written)
+        })
     }
 
-    fn clock(&self, table: Table, report: &mut [u8], time: u32) -> Swept {
+    fn clock(&self, table: Table, summary: &mut Summary, report: &mut [u8], time: u32) -> Swept {
         let values: [&[u8]; 2] = [&table_octets(&table), &time.to_le_bytes()];
-        call(Call::Clock, &values, &[], &mut [(Lent::Report, report)])
+        with_summary(summary, |summary| {
+            let written = &mut [(Lent::Summary, summary), (Lent::Report, report)];
+            call(Call::Clock, &values, &[], written)
+        })
     }
 
-    fn release(&self, table: Table, report: &mut [u8], association: u16) -> Swept {
+    fn release(
+        &self,
+        table: Table,
+        summary: &mut Summary,
+        report: &mut [u8],
+        association: u16,
+    ) -> Swept {
         let values: [&[u8]; 2] = [&table_octets(&table), &association.to_le_bytes()];
-        call(Call::Release, &values, &[], &mut [(Lent::Report, report)])
+        with_summary(summary, |summary| {
+            let written = &mut [(Lent::Summary, summary), (Lent::Report, report)];
+            call(Call::Release, &values, &[], written)
+        })
     }
 
     fn delivery(&self, decision: Decision, parameter: &[u8], store: &[u8]) -> Part {

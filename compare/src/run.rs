@@ -1,6 +1,7 @@
 //! A run: calls, traces and round trips in turn, up to the first difference.
 
 use crate::arguments::Arguments;
+use crate::billed;
 use crate::cases::World;
 use crate::coverage::Coverage;
 use crate::exhaustive::Exhaustive;
@@ -112,8 +113,11 @@ impl<'a> Run<'a> {
             let (held, number) = (&case.held, answer.refusal());
             return Err(format!("{}made for {held:?}, but both answer {number}\n", case.input));
         }
-        self.coverage.count(&case, &answer);
-        world.absorb(&case, &answer);
+        if let Some(wrong) = billed::wrong(&case.input, &answer, pair.summary(), pair.report()) {
+            return Err(format!("{}{wrong}", case.input));
+        }
+        self.coverage.count(&case, &answer, pair.summary());
+        world.absorb(&case, &answer, pair.summary());
         Ok(())
     }
 
@@ -130,8 +134,8 @@ impl<'a> Run<'a> {
 
     fn trace(&mut self, random: &mut Random) -> Result<(), String> {
         let trace = traces::trace(random);
-        let [lines, records] = traces::compare(&self.model, &self.replayer, &trace)?;
-        self.coverage.count_trace(&lines, &records);
+        let texts = traces::compare(&self.model, &self.replayer, &trace)?;
+        self.coverage.count_trace(&texts);
         Ok(())
     }
 }
@@ -152,6 +156,20 @@ mod tests {
         let arguments = arguments();
         for fault in Fault::ALL {
             assert!(Run::new(&arguments, Model::with(*fault)).go().is_err(), "{}", fault.name());
+        }
+    }
+
+    /// What A1 asks of the rows is asked of both sides, so that a break they share is found too.
+    #[test]
+    fn shared_breaks_of_the_totals_are_found() {
+        let mut arguments = arguments();
+        arguments.only_calls = true;
+        let first = Fault::ALL.iter().position(|fault| *fault == Fault::RefusedCounted);
+        let last = Fault::ALL.iter().position(|fault| *fault == Fault::PlacesUnchecked);
+        for fault in &Fault::ALL[first.unwrap_or(0)..=last.unwrap_or(0)] {
+            let other: &'static Model = Box::leak(Box::new(Model::with(*fault)));
+            let mut run = Run { other, ..Run::new(&arguments, *other) };
+            assert!(run.go().is_err(), "{}", fault.name());
         }
     }
 

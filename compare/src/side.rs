@@ -1,19 +1,26 @@
-//! The calls of document 01, whoever answers them.
+//! The calls of documents 01 and 02, whoever answers them.
 
 use model::*;
 
 pub trait Side {
-    fn opening(&self, registry: &[u8], timer: u32, clock: u32) -> Opened;
+    fn opening(&self, summary: &mut Summary, registry: &[u8], timer: u32, clock: u32) -> Opened;
     fn segment(
         &self,
         table: Table,
+        summary: &mut Summary,
         store: &mut [u8],
         report: &mut [u8],
         association: u16,
         parameter: &[u8],
     ) -> Received;
-    fn clock(&self, table: Table, report: &mut [u8], time: u32) -> Swept;
-    fn release(&self, table: Table, report: &mut [u8], association: u16) -> Swept;
+    fn clock(&self, table: Table, summary: &mut Summary, report: &mut [u8], time: u32) -> Swept;
+    fn release(
+        &self,
+        table: Table,
+        summary: &mut Summary,
+        report: &mut [u8],
+        association: u16,
+    ) -> Swept;
     fn delivery(&self, decision: Decision, parameter: &[u8], store: &[u8]) -> Part;
     fn sending(
         &self,
@@ -27,27 +34,34 @@ pub trait Side {
 }
 
 impl Side for Model {
-    fn opening(&self, registry: &[u8], timer: u32, clock: u32) -> Opened {
-        self.opening(registry, timer, clock)
+    fn opening(&self, summary: &mut Summary, registry: &[u8], timer: u32, clock: u32) -> Opened {
+        self.opening(summary, registry, timer, clock)
     }
 
     fn segment(
         &self,
         table: Table,
+        summary: &mut Summary,
         store: &mut [u8],
         report: &mut [u8],
         association: u16,
         parameter: &[u8],
     ) -> Received {
-        self.segment(table, store, report, association, parameter)
+        self.segment(table, summary, store, report, association, parameter)
     }
 
-    fn clock(&self, table: Table, report: &mut [u8], time: u32) -> Swept {
-        self.clock(table, report, time)
+    fn clock(&self, table: Table, summary: &mut Summary, report: &mut [u8], time: u32) -> Swept {
+        self.clock(table, summary, report, time)
     }
 
-    fn release(&self, table: Table, report: &mut [u8], association: u16) -> Swept {
-        self.release(table, report, association)
+    fn release(
+        &self,
+        table: Table,
+        summary: &mut Summary,
+        report: &mut [u8],
+        association: u16,
+    ) -> Swept {
+        self.release(table, summary, report, association)
     }
 
     fn delivery(&self, decision: Decision, parameter: &[u8], store: &[u8]) -> Part {

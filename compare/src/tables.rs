@@ -7,8 +7,12 @@ const CONTEXT_POOL: [u16; 12] = [1, 2, 3, 4, 126, 127, 128, 129, 255, 256, 16_38
 const ASSOCIATIONS: [u16; 5] = [9, 10, 0x0900, 0, 0xFFFF];
 const REFERENCES: [u8; 6] = [0, 5, 6, 85, 126, 127];
 
+/// Mostly one of a few, so that one association has several sequences.
 pub fn association(random: &mut Random) -> u16 {
-    random.pick(&ASSOCIATIONS)
+    match random.one_in(10) {
+        true => random.below(100) as u16,
+        false => random.pick(&ASSOCIATIONS),
+    }
 }
 
 pub fn reference(random: &mut Random) -> u8 {

@@ -1,5 +1,6 @@
 //! Random traces, and the text that the programs print of them.
 
+use std::collections::BTreeMap;
 use std::io::{Read, Write};
 use std::path::PathBuf;
 use std::process::{Command, Stdio};
@@ -13,11 +14,12 @@ use crate::tables;
 use model::*;
 
 /// The programs' names, and what each prints.
-const PROGRAMS: [(&str, Output); 2] = [("replay", Output::Lines), ("records", Output::Records)];
+const PROGRAMS: [(&str, Output); 3] =
+    [("replay", Output::Lines), ("records", Output::Records), ("totals", Output::Totals)];
 
-/// Who replays: the two programs, or the model where there is no library to compare with.
+/// Who replays: the programs, or the model where there is no library to compare with.
 pub enum Replayer {
-    Programs([PathBuf; 2]),
+    Programs([PathBuf; 3]),
     Model(Model),
 }
 
@@ -68,9 +70,12 @@ struct Scribe<'a> {
     random: &'a mut Random,
     /// Begins more sequences than it ends.
     crowded: bool,
+    /// Has more associations than there are rows; counts them.
+    many: Option<u16>,
     trace: Vec<u8>,
     registry: Vec<u8>,
     table: Table,
+    summary: Summary,
     store: Vec<u8>,
     report: Vec<u8>,
 }
@@ -98,7 +103,8 @@ impl Scribe<'_> {
         self.trace.push(32);
         self.trace.extend(timer.to_be_bytes());
         self.trace.extend(clock.to_be_bytes());
-        self.table = Model::PLAIN.opening(&self.registry, timer, clock).table;
+        let summary = &mut self.summary;
+        self.table = Model::PLAIN.opening(summary, &self.registry, timer, clock).table;
     }
 
     fn segment(&mut self) {
@@ -107,6 +113,11 @@ impl Scribe<'_> {
             false => None,
         };
         let mut scene = begun.unwrap_or_else(|| scene::scene(self.random, &self.table));
+        if let Some(many) = self.many.as_mut().filter(|_| self.random.one_in(2)) {
+            *many = (*many + 1) % 75;
+            scene.association = *many;
+            (scene.wire.new, scene.wire.remaining, scene.wire.reference) = (true, 0, None);
+        }
         if self.random.one_in(15) {
             let refusal = self.random.within(6..=9) as u8;
             damage_wire(self.random, &self.table, &mut scene.wire, &[refusal]);
@@ -123,9 +134,10 @@ impl Scribe<'_> {
         self.trace.extend(&parameter);
         let rest = self.random.octets(PARAMETER - parameter.len());
         self.trace.extend(rest);
-        let (store, report) = (&mut self.store, &mut self.report);
-        let got = Model::PLAIN.segment(self.table, store, report, scene.association, &parameter);
-        self.table = got.table;
+        let Scribe { table, summary, store, report, .. } = self;
+        let association = scene.association;
+        *table =
+            Model::PLAIN.segment(*table, summary, store, report, association, &parameter).table;
     }
 
     fn clock(&mut self) {
@@ -138,20 +150,26 @@ impl Scribe<'_> {
         let time = self.table.clock.wrapping_add(step);
         self.trace.push(34);
         self.trace.extend(time.to_be_bytes());
-        self.table = Model::PLAIN.clock(self.table, &mut self.report, time).table;
+        let Scribe { table, summary, report, .. } = self;
+        *table = Model::PLAIN.clock(*table, summary, report, time).table;
     }
 
     fn release(&mut self) {
         let association = tables::association(self.random);
         self.trace.push(35);
         self.trace.extend(association.to_be_bytes());
-        self.table = Model::PLAIN.release(self.table, &mut self.report, association).table;
+        let Scribe { table, summary, report, .. } = self;
+        *table = Model::PLAIN.release(*table, summary, report, association).table;
     }
 
     fn events(&mut self, count: usize) {
         for _ in 0..count {
-            match self.random.weighted(if self.crowded { &[1, 100, 4, 1] } else { &[1, 80, 12, 4] })
-            {
+            let weights = match (self.many, self.crowded) {
+                (Some(_), _) => [1, 400, 16, 4],
+                (None, true) => [1, 100, 4, 1],
+                (None, false) => [1, 80, 12, 4],
+            };
+            match self.random.weighted(&weights) {
                 0 => self.open(),
                 1 => self.segment(),
                 2 => self.clock(),
@@ -194,7 +212,9 @@ pub fn trace(random: &mut Random) -> Vec<u8> {
     let (table, store, report) = (Table::default(), vec![0; STORE], vec![0; SWEEP]);
     let (trace, registry) = (Vec::new(), Vec::new());
     let crowded = random.one_in(4);
-    let mut scribe = Scribe { random, crowded, trace, registry, table, store, report };
+    let (many, summary) = (random.one_in(4).then_some(0), Summary::EMPTY);
+    let mut scribe =
+        Scribe { random, crowded, many, trace, registry, table, summary, store, report };
     if scribe.random.one_in(8) {
         // Before the first open: without 32, so that registry records may still follow.
         for _ in 0..3 {
@@ -216,9 +236,70 @@ pub fn trace(random: &mut Random) -> Vec<u8> {
     scribe.trace
 }
 
-/// The model's texts and the other side's, line by line: replay's, then records'.
-pub fn compare(model: &Model, other: &Replayer, trace: &[u8]) -> Result<[String; 2], String> {
-    Ok([compare_one(model, other, trace, 0)?, compare_one(model, other, trace, 1)?])
+/// The model's texts and the other side's, line by line, in the order of `PROGRAMS`.
+pub fn compare(model: &Model, other: &Replayer, trace: &[u8]) -> Result<[String; 3], String> {
+    let one = |which| compare_one(model, other, trace, which);
+    let texts = [one(0)?, one(1)?, one(2)?];
+    let told: Vec<_> = openings(&texts[2]).into_iter().map(|(_, rows)| rows).collect();
+    match told == added_up(&texts[1]) {
+        true => Ok(texts),
+        false => Err(format!(
+            "totals are not what the records add up to\nrecords:\n{}totals:\n{}trace: {}\n",
+            texts[1],
+            texts[2],
+            hex(trace)
+        )),
+    }
+}
+
+/// Associations with their totals.
+pub type Rows = BTreeMap<u64, [u64; TOTALS.len()]>;
+
+fn numbers(line: &str) -> Vec<u64> {
+    line.split(' ').filter_map(|word| word.parse().ok()).collect()
+}
+
+/// What the totals program prints: each heading with its rows.
+pub fn openings(totals: &str) -> Vec<(&str, Rows)> {
+    let mut openings: Vec<(&str, Rows)> = Vec::new();
+    for line in totals.lines().filter(|line| *line != "stop") {
+        match (openings.last_mut(), numbers(line).as_slice()) {
+            (Some((_, rows)), [who, totals @ ..]) if !line.starts_with("opening") => {
+                rows.insert(*who, totals.try_into().unwrap_or_default());
+            }
+            _ => openings.push((line, Rows::new())),
+        }
+    }
+    openings
+}
+
+/// The same from what the records program prints: what is delivered or lost, and what an opening
+/// drops or is held at the end, was taken before.
+fn added_up(records: &str) -> Vec<Rows> {
+    let mut openings: Vec<Rows> = Vec::new();
+    for line in records.lines() {
+        let at = match line.split(' ').next() {
+            Some("open") => {
+                openings.push(Rows::new());
+                continue;
+            }
+            Some("delivered") => Some(2),
+            Some("lost") => Some(4),
+            Some("dropped" | "held") => None,
+            _ => continue,
+        };
+        // What is dropped was held until this opening.
+        let back = if line.starts_with("dropped") { 2 } else { 1 };
+        let numbers = numbers(&line.replace(" - ", " 0 "));
+        let [who, _, _, _, _, segments, octets, ..] = numbers[..] else { continue };
+        let Some(index) = openings.len().checked_sub(back) else { continue };
+        let row = openings[index].entry(who).or_default();
+        for column in std::iter::once(0).chain(at) {
+            row[column] += segments;
+            row[column + 1] += octets;
+        }
+    }
+    openings
 }
 
 fn compare_one(

@@ -3,7 +3,7 @@
 use crate::input::{hex, table_hex};
 use crate::random::Random;
 use crate::side::Side;
-use crate::tables;
+use crate::{summaries, tables};
 use model::*;
 
 /// One sequence on its way.
@@ -30,16 +30,20 @@ impl Ends<'_> {
     pub fn go(&self, random: &mut Random, n: usize) -> Result<Vec<usize>, String> {
         let (count, open) = (random.within(1..=8), random.within(0..=13));
         let mut table = tables::sound_with(random, count, open);
+        let mut summary = summaries::roomy(random, &table);
+        let mut expected = summary;
         let mut trips = Vec::new();
         for number in 0..random.within(1..=3) {
             let n = if number == 0 { n } else { other_length(random) };
-            trips.push(self.cut(random, &table, n, number as u8)?);
+            let trip = self.cut(random, &table, n, number as u8)?;
+            trip.bill(&mut expected);
+            trips.push(trip);
         }
         let mut counts = Vec::new();
         let mut store = random.octets(STORE);
         while !trips.is_empty() {
             let at = random.below(trips.len());
-            if let Some(data) = self.join(&mut table, &mut store, &mut trips[at])? {
+            if let Some(data) = self.join(&mut table, &mut summary, &mut store, &mut trips[at])? {
                 let trip = trips.swap_remove(at);
                 if data != trip.data {
                     return Err(trip.failed("the data joined is another", &table));
@@ -47,7 +51,14 @@ impl Ends<'_> {
                 counts.push(trip.count);
             }
         }
-        Ok(counts)
+        match rows(&summary) == rows(&expected) {
+            true => Ok(counts),
+            false => Err(format!(
+                "round trip: all was delivered, but the {}expected is the {}",
+                summaries::text(&summary),
+                summaries::text(&expected)
+            )),
+        }
     }
 
     /// All the segments of new data. The references keep the sequences apart.
@@ -108,13 +119,15 @@ impl Ends<'_> {
     fn join(
         &self,
         table: &mut Table,
+        summary: &mut Summary,
         store: &mut [u8],
         trip: &mut Trip,
     ) -> Result<Option<Vec<u8>>, String> {
         let before = *table;
         let mut report = [0; RECORD];
         let segment = trip.segments.pop().unwrap_or_default();
-        let got = self.receiver.segment(before, store, &mut report, trip.association, &segment);
+        let Trip { association, .. } = *trip;
+        let got = self.receiver.segment(before, summary, store, &mut report, association, &segment);
         *table = got.table;
         let last = trip.segments.is_empty();
         let good = match (got.decision.kind, last) {
@@ -139,7 +152,27 @@ impl Ends<'_> {
     }
 }
 
+/// The used rows in the order of their associations: which one comes first is left to chance.
+fn rows(summary: &Summary) -> Vec<[u64; 8]> {
+    let rows = (0..ROWS).map(|row| summaries::numbers(summary, row));
+    let mut rows: Vec<[u64; 8]> = rows.filter(|numbers| numbers[0] != 0).collect();
+    rows.sort_by_key(|numbers| numbers[1]);
+    rows
+}
+
 impl Trip {
+    /// What the whole trip adds: all of it is taken, and all of it is delivered.
+    fn bill(&self, summary: &mut Summary) {
+        let unused = || summary.mark.iter().position(|mark| *mark == 0);
+        let row = summaries::row_of(summary, self.association).or_else(unused);
+        let row = row.expect("a roomy summary");
+        (summary.mark[row], summary.association[row]) = (1, self.association.into());
+        for column in [0, 2] {
+            summary.totals[column][row] += self.count as u64;
+            summary.totals[column + 1][row] += self.data.len() as u64;
+        }
+    }
+
     /// The record of its delivery, octet by octet from document 01's table.
     fn record(&self) -> Vec<u8> {
         let reference = if self.count == 1 { UNSEGMENTED } else { self.reference };

@@ -9,7 +9,7 @@ import re
 import shlex
 import signal
 
-from egrynnol_lib import VERSION, programs, streams
+from egrynnol_lib import VERSION, programs, streams, totals as of_totals
 from egrynnol_lib.rows import Beside, csv_head, csv_of, json_of
 from egrynnol_lib.streams import Failed, NotWritten, Trace, fit, opened, output, report, trace
 from egrynnol_lib.traces import BLOCK, Bad, blocks_of, octets_of_record, parsed, records_of_text, text_of
@@ -83,6 +83,25 @@ def records(options, out):
     if options.table is None:
         return each_trace(options, out, passed_on("records"))
     return each_trace(options, out, table_of(csv_of if options.table == "csv" else json_of))
+
+
+def totals(options, out):
+    if options.table is None:
+        return each_trace(options, out, passed_on("totals"))
+    if len(options.files) > 1:
+        raise Misused("egrynnol totals: --csv is the table of one trace: its rows do not say which file they are of\nTry 'egrynnol totals --help'.")
+    out.write(of_totals.csv_head().encode("ascii"))
+    return each_trace(options, out, tabled)
+
+
+def tabled(it, out):
+    """Writes a row for each row of totals, as they come."""
+    rows = of_totals.Rows(it)
+    with contextlib.closing(rows.batches()) as batches:
+        for batch in batches:
+            out.write("".join(map(of_totals.csv_of, batch)).encode("ascii"))
+            out.flush()
+    return STOPPED if rows.stopped else GOOD
 
 
 def table_of(line_of):
@@ -213,6 +232,18 @@ it, since a spreadsheet takes 0007 and 07 for one number). What a row does not
 have is empty in CSV and null in JSON.
 """
 
+TOTALS = """\
+Runs the proved program totals on each trace. For each opening it prints
+'opening', the number of its event and its refusal number or 0, and under that
+a line for each association of which a segment was taken: association, then
+segments and octets taken, delivered and lost since that opening. See
+egrynnol-trace(5).
+
+--csv writes a table of one trace: a header row, then a row for each
+association's line, with its opening before it. An opening that has no such line
+has no row.
+"""
+
 EXPLAIN = """\
 Tells each trace in words, beside its line number (text) or offset (octets):
 what was refused and why, saved where, delivered, lost by which cause, dropped
@@ -258,6 +289,8 @@ COMMANDS = (
     Command("replay", replay, "replay traces, a line for each event", REPLAY + "\n" + TELLING, ("kind", "out", "files")),
     Command("records", records, "the same, with every record, and what is dropped or held; also as a table", RECORDS + "\n" + TELLING,
             ("kind", "table", "out", "files")),
+    Command("totals", totals, "what each association had taken, delivered and lost, opening by opening; also as a table", TOTALS + "\n" + TELLING,
+            ("kind", "csv", "out", "files")),
     Command("explain", explain, "traces in words", EXPLAIN + "\n" + TELLING, ("kind", "out", "files")),
     Command("encode", encode, "a trace in text to octets", ENCODE + "\n" + TEXT, ("out", "file")),
     Command("decode", decode, "a trace in octets to text", DECODE, ("out", "file")),
@@ -330,6 +363,10 @@ def table_option(parser):
     group.add_argument("--json", dest="table", action="store_const", const="json", help="a table as JSON, one object a line")
 
 
+def csv_option(parser):
+    parser.add_argument("--csv", dest="table", action="store_const", const="csv", help="a table as CSV, with a header row; of one trace")
+
+
 def capture_option(parser):
     parser.add_argument("--tick", type=seconds, default="0.001", metavar="SECONDS", help="a tick of the clock (default 0.001)")
     parser.add_argument("--timer", type=ticks, default=15000, metavar="TICKS", help="T, 1 to 1000000 (default 15000)")
@@ -340,6 +377,7 @@ def capture_option(parser):
 OPTIONS = {
     "kind": kind_option,
     "table": table_option,
+    "csv": csv_option,
     "capture": capture_option,
     "out": lambda parser: parser.add_argument("-o", dest="out", metavar="FILE", help="the output; standard output if not given"),
     "file": lambda parser: parser.add_argument("file", nargs="?", default="-", metavar="FILE", help="the input; standard input if none or '-'"),

@@ -3,7 +3,7 @@
 from egrynnol_lib.traces import FORMS, OPEN, SEGMENT, hexed
 
 REFUSALS = {
-    1: "nothing is open: there was no opening, or the last one was refused",
+    1: "table or summary not sound: here, nothing is open, for there was no opening or the last one was refused",
     2: "the store is too short",
     3: "the report area is too short",
     4: "the parameter is over 255 octets",
@@ -16,6 +16,8 @@ REFUSALS = {
     11: "the registry has a context that is not 1 to 16,383, or one twice, or over 8 of them",
     12: "T is not 1 to 1,000,000",
     13: "the clock's step is 2^31 or more, which is a step back",
+    21: "no row for a new association: 64 have one",
+    22: "a total would pass 2^63",
 }
 CAUSES = {
     1: "a later segment, and no sequence of its key is open",

@@ -1,4 +1,4 @@
-//! The table and the areas that the measured calls are given.
+//! The table, the summary and the areas that the measured calls are given.
 
 use crate::wire::Wire;
 use model::*;
@@ -13,28 +13,47 @@ pub const NOBODY: u16 = 9_999;
 pub const EVERYBODY: u16 = 7;
 
 pub struct Areas {
+    pub summary: Summary,
     pub store: Vec<u8>,
     pub report: Vec<u8>,
 }
 
 impl Areas {
+    /// With no used row.
     pub fn new() -> Self {
-        Areas { store: vec![0; STORE], report: vec![0; SWEEP] }
+        Areas { summary: Summary::EMPTY, store: vec![0; STORE], report: vec![0; SWEEP] }
+    }
+
+    pub fn with(summary: Summary) -> Self {
+        Areas { summary, ..Areas::new() }
     }
 }
 
-/// A sound table with so many sequences open, begun by first segments; references from 100 on.
-pub fn table(open: usize, association: impl Fn(usize) -> u16) -> Table {
-    let mut areas = Areas::new();
-    let mut table = Unbroken::PLAIN.opening(&REGISTRY, TIMER, 0).table;
+/// A sound table with so many sequences open, begun by first segments; references from 100 on. The
+/// summary is what they have led to.
+pub fn table(open: usize, association: impl Fn(usize) -> u16) -> (Table, Summary) {
+    let Areas { mut summary, mut store, mut report } = Areas::new();
+    let mut table = Unbroken::PLAIN.opening(&mut summary, &REGISTRY, TIMER, 0).table;
     for k in 0..open {
         let parameter = other(k).octets();
-        let Areas { store, report } = &mut areas;
-        let got = Unbroken::PLAIN.segment(table, store, report, association(k), &parameter);
+        let (store, report, association) = (&mut store, &mut report, association(k));
+        let got =
+            Unbroken::PLAIN.segment(table, &mut summary, store, report, association, &parameter);
         assert!(got.refusal == 0 && got.decision.kind == 1, "sequence {k} is not open");
         table = got.table;
     }
-    table
+    (table, summary)
+}
+
+/// A row for each of these associations, after those that are used.
+pub fn seated(mut summary: Summary, associations: impl IntoIterator<Item = u16>) -> Summary {
+    for association in associations.into_iter().map(u64::from) {
+        let rows = summary.mark.iter().zip(&summary.association);
+        let row = rows.clone().position(|(mark, other)| *mark == 1 && *other == association);
+        let row = row.or(summary.mark.iter().position(|mark| *mark == 0)).expect("a row");
+        (summary.mark[row], summary.association[row]) = (1, association);
+    }
+    summary
 }
 
 /// The first segment of a sequence that stays open.

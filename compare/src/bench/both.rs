@@ -7,48 +7,64 @@ use model::*;
 
 pub struct Both;
 
-/// The model gets copies of the lent areas, which have to end up alike too.
+/// The model gets copies of the summary and of the lent areas, which have to end up alike too.
 fn alike<A: PartialEq + std::fmt::Debug>(
+    summary: &mut Summary,
     lent: &mut [&mut [u8]],
-    call: impl Fn(&dyn Side, &mut [&mut [u8]]) -> A,
+    call: impl Fn(&dyn Side, &mut Summary, &mut [&mut [u8]]) -> A,
 ) -> A {
+    let mut copied_summary = *summary;
     let mut copies: Vec<Vec<u8>> = lent.iter().map(|area| area.to_vec()).collect();
     let mut copied: Vec<&mut [u8]> = copies.iter_mut().map(|area| area.as_mut_slice()).collect();
-    let answers = (call(&Library, lent), call(&Called, &mut copied));
+    let answers = (call(&Library, summary, lent), call(&Called, &mut copied_summary, &mut copied));
     assert_eq!(answers.0, answers.1, "library and model answer differently");
+    assert!(*summary == copied_summary, "summaries differ");
     assert!(lent.iter().zip(&copies).all(|(left, right)| left == right), "areas differ");
     answers.0
 }
 
 impl Side for Both {
-    fn opening(&self, registry: &[u8], timer: u32, clock: u32) -> Opened {
-        alike(&mut [], |side, _| side.opening(registry, timer, clock))
+    fn opening(&self, summary: &mut Summary, registry: &[u8], timer: u32, clock: u32) -> Opened {
+        alike(summary, &mut [], |side, summary, _| side.opening(summary, registry, timer, clock))
     }
 
     fn segment(
         &self,
         table: Table,
+        summary: &mut Summary,
         store: &mut [u8],
         report: &mut [u8],
         association: u16,
         parameter: &[u8],
     ) -> Received {
-        alike(&mut [store, report], |side, lent| {
+        alike(summary, &mut [store, report], |side, summary, lent| {
             let [store, report] = lent else { unreachable!() };
-            side.segment(table, store, report, association, parameter)
+            side.segment(table, summary, store, report, association, parameter)
         })
     }
 
-    fn clock(&self, table: Table, report: &mut [u8], time: u32) -> Swept {
-        alike(&mut [report], |side, lent| side.clock(table, lent[0], time))
+    fn clock(&self, table: Table, summary: &mut Summary, report: &mut [u8], time: u32) -> Swept {
+        alike(summary, &mut [report], |side, summary, lent| {
+            side.clock(table, summary, lent[0], time)
+        })
     }
 
-    fn release(&self, table: Table, report: &mut [u8], association: u16) -> Swept {
-        alike(&mut [report], |side, lent| side.release(table, lent[0], association))
+    fn release(
+        &self,
+        table: Table,
+        summary: &mut Summary,
+        report: &mut [u8],
+        association: u16,
+    ) -> Swept {
+        alike(summary, &mut [report], |side, summary, lent| {
+            side.release(table, summary, lent[0], association)
+        })
     }
 
     fn delivery(&self, decision: Decision, parameter: &[u8], store: &[u8]) -> Part {
-        alike(&mut [], |side, _| side.delivery(decision, parameter, store))
+        alike(&mut { Summary::EMPTY }, &mut [], |side, _, _| {
+            side.delivery(decision, parameter, store)
+        })
     }
 
     fn sending(
@@ -60,7 +76,7 @@ impl Side for Both {
         data: &[u8],
         area: &mut [u8],
     ) -> Sent {
-        alike(&mut [area], |side, lent| {
+        alike(&mut { Summary::EMPTY }, &mut [area], |side, _, lent| {
             side.sending(table, request, origin, destination, data, lent[0])
         })
     }

@@ -10,35 +10,45 @@ const MODEL: Unbroken = Unbroken::PLAIN;
 
 pub struct Called;
 
-type Segment = fn(&Unbroken, Table, &mut [u8], &mut [u8], u16, &[u8]) -> Received;
+type Opening = fn(&Unbroken, &mut Summary, &[u8], u32, u32) -> Opened;
+type Segment = fn(&Unbroken, Table, &mut Summary, &mut [u8], &mut [u8], u16, &[u8]) -> Received;
+type Clock = fn(&Unbroken, Table, &mut Summary, &mut [u8], u32) -> Swept;
+type Release = fn(&Unbroken, Table, &mut Summary, &mut [u8], u16) -> Swept;
 type Sending = fn(&Unbroken, Table, Request, &[u8], &[u8], &[u8], &mut [u8]) -> Sent;
 
 impl Side for Called {
-    fn opening(&self, registry: &[u8], timer: u32, clock: u32) -> Opened {
-        let call: fn(&Unbroken, &[u8], u32, u32) -> Opened = Unbroken::opening;
-        black_box(call)(&MODEL, registry, timer, clock)
+    fn opening(&self, summary: &mut Summary, registry: &[u8], timer: u32, clock: u32) -> Opened {
+        let call: Opening = Unbroken::opening;
+        black_box(call)(&MODEL, summary, registry, timer, clock)
     }
 
     fn segment(
         &self,
         table: Table,
+        summary: &mut Summary,
         store: &mut [u8],
         report: &mut [u8],
         association: u16,
         parameter: &[u8],
     ) -> Received {
         let call: Segment = Unbroken::segment;
-        black_box(call)(&MODEL, table, store, report, association, parameter)
+        black_box(call)(&MODEL, table, summary, store, report, association, parameter)
     }
 
-    fn clock(&self, table: Table, report: &mut [u8], time: u32) -> Swept {
-        let call: fn(&Unbroken, Table, &mut [u8], u32) -> Swept = Unbroken::clock;
-        black_box(call)(&MODEL, table, report, time)
+    fn clock(&self, table: Table, summary: &mut Summary, report: &mut [u8], time: u32) -> Swept {
+        let call: Clock = Unbroken::clock;
+        black_box(call)(&MODEL, table, summary, report, time)
     }
 
-    fn release(&self, table: Table, report: &mut [u8], association: u16) -> Swept {
-        let call: fn(&Unbroken, Table, &mut [u8], u16) -> Swept = Unbroken::release;
-        black_box(call)(&MODEL, table, report, association)
+    fn release(
+        &self,
+        table: Table,
+        summary: &mut Summary,
+        report: &mut [u8],
+        association: u16,
+    ) -> Swept {
+        let call: Release = Unbroken::release;
+        black_box(call)(&MODEL, table, summary, report, association)
     }
 
     fn delivery(&self, decision: Decision, parameter: &[u8], store: &[u8]) -> Part {

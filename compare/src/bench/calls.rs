@@ -6,16 +6,19 @@ use super::areas::{self, Areas, REGISTRY, TIMER};
 use super::rounds::Work;
 use crate::random::Random;
 use crate::side::Side;
+use crate::wire::Wire;
 use model::*;
 
 /// Calls in one go: enough for the clock that times them.
 const CALLS: usize = 200;
 
-pub struct Opening;
+pub struct Opening {
+    summary: Summary,
+}
 
 impl Opening {
     pub fn new() -> Self {
-        Opening
+        Opening { summary: Summary::EMPTY }
     }
 }
 
@@ -25,19 +28,21 @@ impl Work for Opening {
     }
 
     fn go<S: Side>(&mut self, side: &S) {
-        black_box(&side.opening(black_box(&REGISTRY), TIMER, 0));
+        let summary = black_box(&mut self.summary);
+        black_box(&side.opening(summary, black_box(&REGISTRY), TIMER, 0));
     }
 }
 
 pub struct Clock {
     table: Table,
-    report: Vec<u8>,
+    areas: Areas,
     time: u32,
 }
 
 impl Clock {
     pub fn new(open: usize, time: u32) -> Self {
-        Clock { table: areas::table(open, |k| k as u16 % 3), report: vec![0; SWEEP], time }
+        let (table, summary) = areas::table(open, |k| k as u16 % 3);
+        Clock { table, areas: Areas::with(summary), time }
     }
 }
 
@@ -48,22 +53,23 @@ impl Work for Clock {
 
     fn go<S: Side>(&mut self, side: &S) {
         for _ in 0..CALLS {
-            let report = black_box(&mut self.report);
-            black_box(&side.clock(*black_box(&self.table), report, black_box(self.time)));
+            let Areas { summary, report, .. } = black_box(&mut self.areas);
+            let (table, time) = (*black_box(&self.table), black_box(self.time));
+            black_box(&side.clock(table, summary, report, time));
         }
     }
 }
 
 pub struct Release {
     table: Table,
-    report: Vec<u8>,
+    areas: Areas,
     association: u16,
 }
 
 impl Release {
     pub fn new(open: usize, association: u16) -> Self {
-        let table = areas::table(open, |_| areas::EVERYBODY);
-        Release { table, report: vec![0; SWEEP], association }
+        let (table, summary) = areas::table(open, |_| areas::EVERYBODY);
+        Release { table, areas: Areas::with(summary), association }
     }
 }
 
@@ -74,9 +80,54 @@ impl Work for Release {
 
     fn go<S: Side>(&mut self, side: &S) {
         for _ in 0..CALLS {
-            let report = black_box(&mut self.report);
-            let association = black_box(self.association);
-            black_box(&side.release(*black_box(&self.table), report, association));
+            let Areas { summary, report, .. } = black_box(&mut self.areas);
+            let (table, association) = (*black_box(&self.table), black_box(self.association));
+            black_box(&side.release(table, summary, report, association));
+        }
+    }
+}
+
+/// An unsegmented parameter for the last used row, or for the first where none is used.
+pub struct Rows {
+    table: Table,
+    areas: Areas,
+    parameter: Vec<u8>,
+    association: u16,
+    used: usize,
+}
+
+impl Rows {
+    /// The associations are apart from each other, as lessees' are.
+    pub fn new(used: usize) -> Self {
+        let (table, summary) = areas::table(0, |_| 0);
+        let association = |row: usize| 300 + 37 * row as u16;
+        let summary = areas::seated(summary, (0..used).map(association));
+        let alone = Wire { context: 3, new: true, information: vec![7; 40], ..Wire::default() };
+        Rows {
+            table,
+            areas: Areas::with(summary),
+            parameter: alone.octets(),
+            association: association(used.saturating_sub(1)),
+            used,
+        }
+    }
+}
+
+impl Work for Rows {
+    fn calls(&self) -> usize {
+        CALLS
+    }
+
+    fn go<S: Side>(&mut self, side: &S) {
+        for _ in 0..CALLS {
+            let Areas { summary, store, report } = black_box(&mut self.areas);
+            let (table, parameter) = (*black_box(&self.table), black_box(&self.parameter));
+            black_box(&side.segment(table, summary, store, report, self.association, parameter));
+            if self.used == 0 {
+                // The row that it has got.
+                (summary.mark[0], summary.association[0]) = (0, 0);
+                summary.totals.iter_mut().for_each(|column| column[0] = 0);
+            }
         }
     }
 }
@@ -105,7 +156,7 @@ impl Sending {
         let mut random = Random::new(765);
         let addresses = lengths.map(|length| random.octets(length));
         let data = random.octets(octets);
-        let table = areas::table(open, |k| k as u16 % 3);
+        let (table, _) = areas::table(open, |k| k as u16 % 3);
         let request =
             Request { context, instruction: 1, reference: 5, room1: room, room, number: 0 };
         let mut area = vec![0; PARAMETER];

@@ -14,6 +14,7 @@ const INFORMATION: usize = 250;
 /// As many as 2,048 octets hold.
 const PARTS: usize = 8;
 const SEQUENCES: usize = 50;
+const ASSOCIATION: u16 = 9;
 
 struct Full {
     segments: Segments,
@@ -23,8 +24,9 @@ struct Full {
 
 /// Name, octets a second, and the time over that of the copy.
 pub fn rows(rounds: usize) -> [(&'static str, f64, f64); 3] {
-    let table = areas::table(0, |_| 0);
-    let mut full = Full { segments: segments(), table, areas: Areas::new() };
+    let (table, summary) = areas::table(0, |_| 0);
+    let areas = Areas::with(areas::seated(summary, [ASSOCIATION]));
+    let mut full = Full { segments: segments(), table, areas };
     let octets = (full.segments.len() * INFORMATION) as f64;
     let library = beside(
         &mut full,
@@ -64,7 +66,7 @@ fn segments() -> Segments {
             information: vec![k as u8; INFORMATION],
             ..Wire::default()
         };
-        segments.push(9, &part.octets());
+        segments.push(ASSOCIATION, &part.octets());
     }
     segments
 }

@@ -64,6 +64,10 @@ impl Bench {
         for others in [0, 4, 15] {
             self.row(&format!("segments, {others} other sequences open"), Mix::new(others));
         }
+        for used in [0, 16, 64] {
+            let name = format!("segment, unsegmented, {used} rows used before");
+            self.row(&name, calls::Rows::new(used));
+        }
         for open in [0, 15] {
             self.row(&format!("clock, none due of {open} open"), calls::Clock::new(open, 1));
         }
@@ -104,11 +108,13 @@ impl Bench {
 
     fn replay(&self) {
         let segments = if self.options.quick { 20_000 } else { 200_000 };
-        let Options { replay, records, quick, .. } = &self.options;
+        let Options { replay, records, totals, quick, .. } = &self.options;
         let name = format!("replay of {segments} segments, as a process");
         process_row(&name, replay::measure(replay, segments, *quick));
         let figures = replay::measure_records([records, replay], segments, *quick);
         process_row(&format!("records / replay of {segments} segments, both proved"), figures);
+        let figures = replay::measure_totals([totals, replay], segments, *quick);
+        process_row(&format!("totals / replay of {segments} segments, both proved"), figures);
     }
 
     fn copying(&self) {
@@ -155,6 +161,7 @@ fn sizes() {
     let sizes = [
         ("table", size_of::<Table>()),
         ("place", size_of::<Place>()),
+        ("summary", size_of::<Summary>()),
         ("answer of opening", size_of::<Opened>()),
         ("answer of segment", size_of::<Received>()),
         ("of which the decision", size_of::<Decision>()),

@@ -47,8 +47,9 @@ pub struct Mix {
 
 impl Mix {
     pub fn new(others: usize) -> Self {
-        let table = areas::table(others, |k| k as u16 % 3);
-        Mix { segments: segments(), table, areas: Areas::new() }
+        let (table, summary) = areas::table(others, |k| k as u16 % 3);
+        let summary = areas::seated(summary, ASSOCIATIONS);
+        Mix { segments: segments(), table, areas: Areas::with(summary) }
     }
 }
 
@@ -62,13 +63,12 @@ impl Work for Mix {
     }
 }
 
-/// Each call gets the table that the call before it gave.
+/// Each call gets the table that the call before it gave, and the summary as it left it.
 pub fn receive<S: Side>(side: &S, mut table: Table, segments: &Segments, areas: &mut Areas) {
-    let Areas { store, report } = areas;
     for (association, parameter) in segments.iter() {
-        let (store, report) = (black_box(&mut *store), black_box(&mut *report));
+        let Areas { summary, store, report } = black_box(&mut *areas);
         let parameter = black_box(parameter);
-        let got = side.segment(*black_box(&table), store, report, association, parameter);
+        let got = side.segment(*black_box(&table), summary, store, report, association, parameter);
         table = black_box(&got).table;
     }
 }
@@ -173,9 +173,10 @@ mod tests {
     /// Kinds of decisions, and causes, each with how often the mix meets it.
     fn met(mix: &mut Mix) -> ([usize; 5], [usize; 6], Table) {
         let (mut kinds, mut causes, mut table) = ([0; 5], [0; 6], mix.table);
-        let Areas { store, report } = &mut mix.areas;
+        let Areas { summary, store, report } = &mut mix.areas;
         for (association, parameter) in mix.segments.iter() {
-            let got = Unbroken::PLAIN.segment(table, store, report, association, parameter);
+            let got =
+                Unbroken::PLAIN.segment(table, summary, store, report, association, parameter);
             kinds[usize::from(got.decision.kind)] += 1;
             causes[usize::from(got.decision.cause)] += 1;
             table = got.table;

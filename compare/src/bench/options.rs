@@ -13,6 +13,7 @@ bench: the proved library beside the model, measured in one run on the same call
   --replay PATH      the replay program (default ../target/bin/replay beside this crate)
   --records PATH     the records program (default ../target/bin/records beside this crate): its time
                      is over the replay program's
+  --totals PATH      the totals program (default ../target/bin/totals beside this crate): likewise
   --replay-model     replays standard input to standard output by the model, and no more:
                      the process that the replay program is measured beside
   --help             this text
@@ -28,6 +29,7 @@ line is wrong (2) or the two sides answer differently (101), which the compariso
 
 const REPLAY: &str = concat!(env!("CARGO_MANIFEST_DIR"), "/../target/bin/replay");
 const RECORDS: &str = concat!(env!("CARGO_MANIFEST_DIR"), "/../target/bin/records");
+const TOTALS: &str = concat!(env!("CARGO_MANIFEST_DIR"), "/../target/bin/totals");
 
 pub enum Task {
     Help,
@@ -42,12 +44,14 @@ pub struct Options {
     pub only: Option<String>,
     pub replay: PathBuf,
     pub records: PathBuf,
+    pub totals: PathBuf,
 }
 
 impl Options {
     pub fn read(mut words: impl Iterator<Item = String>) -> Result<Options, String> {
         let (mut task, mut quick, mut rounds) = (Task::Measure, false, None);
-        let (mut only, mut replay, mut records) = (None, REPLAY.into(), RECORDS.into());
+        let (mut replay, mut records, mut totals) = (REPLAY.into(), RECORDS.into(), TOTALS.into());
+        let mut only = None;
         while let Some(word) = words.next() {
             let mut value = || words.next().ok_or(format!("{word} needs a value"));
             match word.as_str() {
@@ -56,13 +60,14 @@ impl Options {
                 "--only" => only = Some(value()?),
                 "--replay" => replay = value()?.into(),
                 "--records" => records = value()?.into(),
+                "--totals" => totals = value()?.into(),
                 "--replay-model" => task = Task::ReplayModel,
                 "--help" | "-h" => task = Task::Help,
                 _ => return Err(format!("unknown option {word}")),
             }
         }
         let rounds = rounds.unwrap_or(if quick { 101 } else { 2_001 });
-        Ok(Options { task, quick, rounds, only, replay, records })
+        Ok(Options { task, quick, rounds, only, replay, records, totals })
     }
 }
 

@@ -1,4 +1,5 @@
-//! The replay program beside a process that replays by the model, and the records program beside it.
+//! The replay program beside a process that replays by the model, and the records program and the
+//! totals program beside it.
 
 use std::fs::{self, File};
 use std::io::{self, Read, Write};
@@ -95,6 +96,18 @@ pub fn measure_records(
         .map_err(|error| error.to_string())
 }
 
+/// The totals program beside the replay program, on the same trace.
+pub fn measure_totals(
+    [totals, replay]: [&Path; 2],
+    segments: usize,
+    quick: bool,
+) -> Result<Figures, String> {
+    there(totals)?;
+    there(replay)?;
+    timed([&|| Command::new(totals), &|| Command::new(replay)], segments, quick, adds_up)
+        .map_err(|error| error.to_string())
+}
+
 fn there(program: &Path) -> Result<(), String> {
     match program.is_file() {
         true => Ok(()),
@@ -109,6 +122,17 @@ fn begins_with(records: &[u8], replay: &[u8]) -> bool {
     let events = records.lines().filter(|line| names.iter().any(|name| line.starts_with(name)));
     let fronts = events.map(|line| line.splitn(6, ' ').take(5).collect::<Vec<_>>().join(" "));
     fronts.eq(replay.lines().map(String::from))
+}
+
+/// Whether the rows have the octets delivered and lost that the replay program's lines have.
+fn adds_up(totals: &[u8], replay: &[u8]) -> bool {
+    let sums = |text: &[u8], words: usize, columns: [usize; 2]| {
+        let text = String::from_utf8_lossy(text);
+        let lines: Vec<Vec<&str>> = text.lines().map(|line| line.split(' ').collect()).collect();
+        let lines = lines.iter().filter(|line| line.len() == words);
+        columns.map(|at| lines.clone().map(|line| line[at].parse().unwrap_or(0)).sum::<u64>())
+    };
+    sums(totals, 7, [4, 6]) == sums(replay, 5, [3, 4])
 }
 
 fn timed(

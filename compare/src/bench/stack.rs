@@ -128,6 +128,10 @@ fn at_mut(octets: &mut [u8]) -> u64 {
     octets.as_mut_ptr() as u64
 }
 
+fn rows(summary: &mut Summary) -> u64 {
+    std::ptr::from_mut(summary) as u64
+}
+
 fn len(octets: &[u8]) -> u64 {
     octets.len() as u64
 }
@@ -135,11 +139,11 @@ fn len(octets: &[u8]) -> u64 {
 // SAFETY, for every call: registers and stack are as the calling convention has them for the
 // declarations in library.rs, and the pointers and lengths come from live slices.
 impl Side for Painted {
-    fn opening(&self, registry: &[u8], timer: u32, clock: u32) -> Opened {
+    fn opening(&self, summary: &mut Summary, registry: &[u8], timer: u32, clock: u32) -> Opened {
         let function = library::egrynnol_opening as *const ();
         let (at, length) = (at(registry), len(registry));
         answered(|to| unsafe {
-            let registers = [to, at, length, timer.into(), clock.into(), 0];
+            let registers = [to, rows(summary), at, length, timer.into(), clock.into()];
             self.call(0, function, registers, Arguments::default())
         })
     }
@@ -147,6 +151,7 @@ impl Side for Painted {
     fn segment(
         &self,
         table: Table,
+        summary: &mut Summary,
         store: &mut [u8],
         report: &mut [u8],
         association: u16,
@@ -156,27 +161,33 @@ impl Side for Painted {
         let (stores, reports) = (len(store), len(report));
         let (store, report) = (at_mut(store), at_mut(report));
         answered(|to| unsafe {
-            let registers = [to, store, stores, report, reports, association.into()];
-            let arguments =
-                Arguments::default().with(table).with(at(parameter)).with(len(parameter));
+            let registers = [to, rows(summary), store, stores, report, reports];
+            let arguments = Arguments::default().with(table).with(u64::from(association));
+            let arguments = arguments.with(at(parameter)).with(len(parameter));
             self.call(1, function, registers, arguments)
         })
     }
 
-    fn clock(&self, table: Table, report: &mut [u8], time: u32) -> Swept {
+    fn clock(&self, table: Table, summary: &mut Summary, report: &mut [u8], time: u32) -> Swept {
         let function = library::egrynnol_clock as *const ();
         let (length, report) = (len(report), at_mut(report));
         answered(|to| unsafe {
-            let registers = [to, report, length, time.into(), 0, 0];
+            let registers = [to, rows(summary), report, length, time.into(), 0];
             self.call(2, function, registers, Arguments::default().with(table))
         })
     }
 
-    fn release(&self, table: Table, report: &mut [u8], association: u16) -> Swept {
+    fn release(
+        &self,
+        table: Table,
+        summary: &mut Summary,
+        report: &mut [u8],
+        association: u16,
+    ) -> Swept {
         let function = library::egrynnol_release as *const ();
         let (length, report) = (len(report), at_mut(report));
         answered(|to| unsafe {
-            let registers = [to, report, length, association.into(), 0, 0];
+            let registers = [to, rows(summary), report, length, association.into(), 0];
             self.call(3, function, registers, Arguments::default().with(table))
         })
     }
@@ -207,5 +218,34 @@ impl Side for Painted {
         let [refusal, count, low, high, ..] =
             unsafe { self.call(5, function, registers, arguments) }.to_le_bytes();
         Sent { refusal, count, length: u16::from_le_bytes([low, high]) }
+    }
+}
+
+#[cfg(test)]
+mod tests {
+    use super::*;
+    use crate::measure::areas::REGISTRY;
+
+    type Answers = (Opened, Received, Swept, Swept, Summary, Vec<u8>);
+
+    fn answers(side: &dyn Side) -> Answers {
+        let (mut summary, mut store, mut report) =
+            (Summary { mark: [7; ROWS], ..Summary::EMPTY }, vec![0; STORE], vec![0; SWEEP]);
+        let (rows, first) = (&mut summary, [0x83, 0x80, 0x41, 0x85, 0xAA]);
+        let opened = side.opening(rows, &REGISTRY, 100, 7);
+        let received = side.segment(opened.table, rows, &mut store, &mut report, 9, &first);
+        let ticked = side.clock(received.table, rows, &mut report, 57);
+        let released = side.release(ticked.table, rows, &mut report, 9);
+        (opened, received, ticked, released, summary, report)
+    }
+
+    /// Each argument is where the calling convention has it.
+    #[test]
+    fn the_painted_stack_changes_no_answer() {
+        let painted = answers(&Painted::new());
+        assert!(painted == answers(&library::Library));
+        let (_, received, ticked, released, summary, _) = painted;
+        assert_eq!((received.refusal, ticked.table.clock, released.records), (0, 57, 1));
+        assert_eq!((summary.association[0], summary.totals[5][0]), (9, 1));
     }
 }

@@ -20,7 +20,7 @@ fn by_rust(table: Table) -> Swept {
 
 /// By the calling convention of C, as the library has it, beside Rust's own.
 pub fn measure(rounds: usize) -> Figures {
-    let mut table = areas::table(4, |k| k as u16);
+    let (mut table, _) = areas::table(4, |k| k as u16);
     let c: extern "C" fn(Table) -> Swept = black_box(by_c);
     let rust: fn(Table) -> Swept = black_box(by_rust);
     let figures = beside(

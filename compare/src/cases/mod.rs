@@ -1,10 +1,12 @@
 //! Cases: inputs for one call, most of them on a live table that has gone through many calls.
 
+mod billing;
 mod receiving;
 mod sending;
 
 use crate::input::{Answer, Input};
 use crate::random::Random;
+use crate::summaries;
 use crate::tables;
 use crate::unsound::{self, RULES};
 use model::*;
@@ -15,21 +17,34 @@ pub struct Case {
     pub input: Input,
     /// Refusals whose conditions were made to hold, in the order of document 01.
     pub held: Vec<u8>,
-    /// The rule of soundness that was broken.
+    /// The rule of soundness that was broken: the table's, then the summary's.
     pub rule: Option<usize>,
+    /// Totals were set so that they just take what the call adds: it is not refused by 22.
+    pub edge: bool,
+    /// The losses of one association pass 2^63 together, and none of them alone.
+    pub together: bool,
+}
+
+/// A table with a summary beside it, and the rule that one of them breaks.
+struct State {
+    table: Table,
+    summary: Summary,
+    rule: Option<usize>,
 }
 
 impl Case {
     fn new(input: Input) -> Case {
-        Case { input, held: vec![], rule: None }
+        Case { input, held: vec![], rule: None, edge: false, together: false }
     }
 
     /// Whether the answer is one of those the case was made for. The octets of a parameter decide
     /// which of 5 to 9 comes first.
     pub fn expects(&self, refusal: u8) -> bool {
         match self.held.first() {
-            None => true,
-            Some(5..=9) if self.input.call() == 1 => self.held.contains(&refusal),
+            None => !self.edge || refusal != 22,
+            Some(5..=9) if self.input.call() == 1 => {
+                (5..=9).contains(&refusal) && self.held.contains(&refusal)
+            }
             Some(first) => *first == refusal,
         }
     }
@@ -52,17 +67,20 @@ fn choose(random: &mut Random, order: &[u8]) -> Vec<u8> {
 pub struct World {
     pub random: Random,
     table: Table,
+    summary: Summary,
 }
 
 impl World {
     pub fn new(mut random: Random) -> World {
         let table = tables::sound(&mut random);
-        World { random, table }
+        let summary = summaries::sound(&mut random, &table);
+        World { random, table, summary }
     }
 
     pub fn case(&mut self) -> Case {
         if self.random.one_in(200) {
             self.table = tables::sound(&mut self.random);
+            self.summary = summaries::sound(&mut self.random, &self.table);
         }
         match self.random.weighted(&[4, 60, 10, 5, 5, 16]) {
             0 => self.opening(),
@@ -74,14 +92,42 @@ impl World {
         }
     }
 
-    /// Goes on with the table that was answered.
-    pub fn absorb(&mut self, case: &Case, answer: &Answer) {
-        let opening = matches!(case.input, Input::Opening { .. });
+    /// Goes on with the table that was answered, and the summary as the call left it. After most
+    /// calls at an edge it does not: little more would be taken.
+    pub fn absorb(&mut self, case: &Case, answer: &Answer, summary: &Summary) {
+        let seldom = matches!(case.input, Input::Opening { .. }) || case.edge;
         if let (0, Some(table)) = (answer.refusal(), answer.table()) {
-            if !opening || self.random.one_in(10) {
-                self.table = *table;
+            if !seldom || self.random.one_in(10) {
+                (self.table, self.summary) = (*table, *summary);
             }
         }
+    }
+
+    /// A table as below, and a summary that is sound beside it, or sometimes any. Where 1 has to
+    /// hold, it is now and then by the summary; it needs an unused row for that.
+    fn state(&mut self, held: &[u8]) -> State {
+        let free = !held.contains(&10) && !held.contains(&21);
+        if held.contains(&1) && free && self.random.one_in(3) {
+            return self.broken_summary();
+        }
+        let (table, rule) = self.table(held);
+        let random = &mut self.random;
+        let summary = match held.is_empty() && random.one_in(16) {
+            true => summaries::damaged(random, &table),
+            false if table == self.table => self.summary,
+            false => summaries::sound(random, &table),
+        };
+        State { table, summary, rule }
+    }
+
+    fn broken_summary(&mut self) -> State {
+        let random = &mut self.random;
+        let (count, open) = (random.within(1..=8), random.within(1..=16));
+        let table = tables::sound_with(random, count, open);
+        let mut summary = summaries::roomy(random, &table);
+        let rule = random.below(summaries::RULES.len());
+        summaries::break_rule(random, &mut summary, &table, rule);
+        State { table, summary, rule: Some(RULES.len() + rule) }
     }
 
     /// A table on which 1 holds, or 10 may hold, or the live one, or sometimes any.
@@ -130,34 +176,54 @@ impl World {
             true => random.pick(&[0, 1_000_001, u32::MAX]),
             false => tables::timer(random),
         };
-        let input = Input::Opening { registry, timer, clock: tables::clock(random) };
+        let summary = match random.one_in(2) {
+            true => summaries::any(random),
+            false => self.summary,
+        };
+        let (summary, clock) = (Box::new(summary), tables::clock(random));
+        let input = Input::Opening { summary, registry, timer, clock };
         Case { held, ..Case::new(input) }
     }
 
     fn clock(&mut self) -> Case {
-        let held = choose(&mut self.random, &[1, 3, 13]);
-        let (table, rule) = self.table(&held);
-        let random = &mut self.random;
+        let mut held = choose(&mut self.random, &[1, 3, 13, 22]);
+        let mut state = self.state(&held);
+        let (random, table) = (&mut self.random, state.table);
         let step = if held.contains(&13) {
             let back = random.within(1..=1_000) as u32;
             random.pick(&[1 << 31, (1 << 31) + 1, u32::MAX, 0u32.wrapping_sub(back)])
+        } else if held.contains(&22) {
+            due_step(random, &table)
         } else {
             good_step(random, &table)
         };
         let time = table.clock.wrapping_add(step);
+        let (edge, together) = billing::sweep(random, &mut state, &mut held, |summary, report| {
+            Model::PLAIN.clock(table, summary, report, time)
+        });
         let report = sweep_room(random, &held);
-        Case { input: Input::Clock { table, report, time }, held, rule }
+        let State { summary, rule, .. } = state;
+        let input = Input::Clock { table, summary: Box::new(summary), report, time };
+        Case { input, held, rule, edge, together }
     }
 
     fn release(&mut self) -> Case {
-        let held = choose(&mut self.random, &[1, 3]);
-        let (table, rule) = self.table(&held);
-        let association = match self.random.below(3) {
-            0 => table.places[self.random.below(PLACES)].key.association,
-            _ => tables::association(&mut self.random),
+        let mut held = choose(&mut self.random, &[1, 3, 22]);
+        let mut state = self.state(&held);
+        let (random, table) = (&mut self.random, state.table);
+        let open = summaries::needed(&table);
+        let association = match random.below(3) {
+            _ if held.contains(&22) && !open.is_empty() => random.pick(&open),
+            0 => table.places[random.below(PLACES)].key.association,
+            _ => tables::association(random),
         };
-        let report = sweep_room(&mut self.random, &held);
-        Case { input: Input::Release { table, report, association }, held, rule }
+        let (edge, together) = billing::sweep(random, &mut state, &mut held, |summary, report| {
+            Model::PLAIN.release(table, summary, report, association)
+        });
+        let report = sweep_room(random, &held);
+        let State { summary, rule, .. } = state;
+        let input = Input::Release { table, summary: Box::new(summary), report, association };
+        Case { input, held, rule, edge, together }
     }
 
     /// A decision that was made up.
@@ -229,6 +295,20 @@ fn good_step(random: &mut Random, table: &Table) -> u32 {
         4 => (1 << 31) - 1,
         5 => random.next() as u32 >> 1,
         _ => random.below(timer.max(2) as usize / 2) as u32,
+    }
+}
+
+/// A clock step at which a sequence expires, if one is open.
+fn due_step(random: &mut Random, table: &Table) -> u32 {
+    let open: Vec<&Place> = table.places.iter().filter(|place| place.mark == 1).collect();
+    match random.below(3) {
+        0 => (1 << 31) - 1,
+        1 => table.timer,
+        _ if open.is_empty() => 0,
+        _ => {
+            let age = table.clock.wrapping_sub(random.pick(&open).start);
+            table.timer.wrapping_sub(age) & (u32::MAX >> 1)
+        }
     }
 }
 

@@ -1,6 +1,6 @@
 //! Cases of segments.
 
-use super::{choose, Case, World};
+use super::{billing, choose, Case, State, World};
 use crate::input::Input;
 use crate::random::Random;
 use crate::scene::{self, Scene};
@@ -10,14 +10,19 @@ use model::*;
 
 impl World {
     pub(super) fn segment(&mut self) -> Case {
-        let mut held = choose(&mut self.random, &[1, 2, 3, 4, 5, 6, 7, 8, 9, 10]);
+        let mut held = choose(&mut self.random, &[1, 2, 3, 4, 5, 6, 7, 8, 9, 10, 21, 22]);
         if held.contains(&4) {
             // A parameter over 255 cannot end inside its fields.
             held.retain(|number| *number != 5);
         }
-        let (table, rule) = self.table(&held);
-        let random = &mut self.random;
-        let Scene { association, mut wire } = fitting(random, &table, &mut held);
+        if held.contains(&21) {
+            // Who has no row has no total either.
+            held.retain(|number| *number != 22);
+        }
+        let mut state = self.state(&held);
+        let (random, table) = (&mut self.random, state.table);
+        let Scene { mut association, mut wire } = fitting(random, &table, &mut held);
+        let edge = billing::segment(random, &mut state, &mut held, &mut association, &wire);
         damage_wire(random, &table, &mut wire, &held);
         wire.fit();
         let mut parameter = wire.octets();
@@ -28,19 +33,28 @@ impl World {
             let length = random.pick(&[256, 256, 257, 300]);
             parameter.resize(length, random.octet());
         }
-        if held.is_empty() && random.one_in(10) {
+        if held.is_empty() && !edge && random.one_in(10) {
             noise(random, &mut parameter);
         }
-        let store = match held.contains(&2) {
-            true => random.pick(&[32_767, 32_767, 2_048, 0]),
-            false => random.pick(&[32_768, 32_768, 32_769, 36_864]),
-        };
-        let report = match held.contains(&3) {
-            true => random.pick(&[31, 31, 1, 0]),
-            false => random.pick(&[32, 32, 33, 512]),
-        };
-        Case { input: Input::Segment { table, store, report, association, parameter }, held, rule }
+        let (store, report) = rooms(random, &held);
+        let State { summary, rule, .. } = state;
+        let summary = Box::new(summary);
+        let input = Input::Segment { table, summary, store, report, association, parameter };
+        Case { input, held, rule, edge, together: false }
     }
+}
+
+/// Lengths of the store and of the report.
+fn rooms(random: &mut Random, held: &[u8]) -> (usize, usize) {
+    let store = match held.contains(&2) {
+        true => random.pick(&[32_767, 32_767, 2_048, 0]),
+        false => random.pick(&[32_768, 32_768, 32_769, 36_864]),
+    };
+    let report = match held.contains(&3) {
+        true => random.pick(&[31, 31, 1, 0]),
+        false => random.pick(&[32, 32, 33, 512]),
+    };
+    (store, report)
 }
 
 /// A scene on which what has to hold can hold; what cannot is taken off the list.

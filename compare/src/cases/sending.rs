@@ -81,7 +81,7 @@ impl World {
         let Some((context, kind)) = context_for(random, &table, &mut held) else {
             held.retain(|number| *number == 1);
             let input = sending_input(table, Request::default(), [vec![], vec![]], vec![], 300);
-            return Case { input, held, rule };
+            return Case { held, rule, ..Case::new(input) };
         };
         let addresses = addresses_for(random, kind, &held);
         let n = match held.contains(&14) {
@@ -107,7 +107,8 @@ impl World {
             ..request
         };
         let data = random.octets(n);
-        Case { input: sending_input(table, request, addresses, data, area), held, rule }
+        let input = sending_input(table, request, addresses, data, area);
+        Case { held, rule, ..Case::new(input) }
     }
 }
 

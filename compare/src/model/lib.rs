@@ -1,5 +1,5 @@
-//! The model: a second implementation of document 01 (01-scope.md), against which the proved
-//! library is compared call by call.
+//! The model: a second implementation of document 01 (01-scope.md) and of A1 of document 02
+//! (02-change-requests.md), against which the proved library is compared call by call.
 //!
 //! Independence. It was written from document 01 and the team's readings of it (readings.md);
 //! whoever wrote it did not read the library's rules, its code or its decisions. From the library
@@ -8,7 +8,8 @@
 //! one who had seen the library's documents and its profile, for measuring: `Machine` without
 //! faults, and a trace that is replayed block by block (`trace`). No rule of a call was. What the
 //! records program prints (`listing`) was added from its format by one who had read the library's
-//! decisions, and not its rules or code.
+//! decisions, and not its rules or code. A1 (`summary`, and what the totals program prints) was
+//! written from document 02 and the readings, by one who had read of the library its C header.
 //!
 //! Style. Bits are first read into small types in which only what is good can be written: a
 //! `Cursor` and `?` for the octets, `Position` for octets 3 and 3a, `Line` for the receiving
@@ -29,6 +30,7 @@ mod segment;
 mod sending;
 mod shapes;
 mod sound;
+mod summary;
 mod sweep;
 #[cfg(test)]
 mod tests;

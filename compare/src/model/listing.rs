@@ -1,4 +1,5 @@
-//! What the records program prints beside the replay program's lines.
+//! What the records program prints beside the replay program's lines, and what the totals program
+//! prints.
 
 use std::fmt::Write;
 
@@ -21,7 +22,7 @@ impl<const B: bool> Replay<B> {
     /// The records that this call made.
     pub(crate) fn records(&self, count: usize, text: &mut String) {
         for record in self.report.chunks_exact(RECORD).take(count) {
-            self.line(if record[0] == 16 { "delivered" } else { "lost" }, record, text);
+            self.covered(if record[0] == 16 { "delivered" } else { "lost" }, record, text);
         }
     }
 
@@ -43,12 +44,12 @@ impl<const B: bool> Replay<B> {
     fn open(&self, name: &str, text: &mut String) {
         for place in self.table.places.iter().filter(|place| place.is_open()) {
             let record = Record { cause: 0, covered: Covered::saved(place) };
-            self.line(name, &self.model.octets(&record), text);
+            self.covered(name, &self.model.octets(&record), text);
         }
     }
 
     /// The name and a record's fields.
-    fn line(&self, name: &str, record: &[u8], text: &mut String) {
+    fn covered(&self, name: &str, record: &[u8], text: &mut String) {
         let two = |at: usize| u16::from_be_bytes([record[at], record[at + 1]]);
         let [association, context, octets] = [1, 3, 9].map(two);
         let [instruction, cause, segments] = [record[6], record[7], record[8]];
@@ -68,5 +69,21 @@ impl<const B: bool> Replay<B> {
             length => length.into(),
         };
         address[..length].iter().map(|octet| format!("{octet:02X}")).collect()
+    }
+
+    /// The last opening with its used rows, and nothing where there was none.
+    pub(crate) fn rows(&self, text: &mut String) {
+        let Some((event, refusal)) = self.opening else { return };
+        if refusal != 0 && self.model.broken(Fault::RefusedOpeningUntold) {
+            return;
+        }
+        writeln!(text, "opening {event} {refusal}").expect("a string takes it");
+        for (row, association) in self.summary.used() {
+            write!(text, "{association}").expect("a string takes it");
+            for column in &self.summary.totals {
+                write!(text, " {}", column[row]).expect("a string takes it");
+            }
+            text.push('\n');
+        }
     }
 }

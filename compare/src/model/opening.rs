@@ -1,10 +1,31 @@
-//! Opening: a registry's octets into a table with no open place.
+//! Opening: a registry's octets into a table with no open place, and a summary with no used row.
 
 use crate::sound::listed;
-use crate::{Entry, Fault, Machine, Opened, Refusal, Table, CONTEXTS, ENTRIES, TIMERS};
+use crate::{Entry, Fault, Machine, Opened, Refusal, Summary, Table};
+use crate::{CONTEXTS, ENTRIES, TIMERS};
 
 impl<const B: bool> Machine<B> {
-    pub fn opening(&self, registry: &[u8], timer: u32, clock: u32) -> Opened {
+    /// The rows are emptied whether it is refused or not.
+    pub fn opening(
+        &self,
+        summary: &mut Summary,
+        registry: &[u8],
+        timer: u32,
+        clock: u32,
+    ) -> Opened {
+        let opened = self.opened(registry, timer, clock);
+        let kept = match self.fault() {
+            Some(Fault::RowsKept) => true,
+            Some(Fault::RefusedRowsKept) => opened.refusal != 0,
+            _ => false,
+        };
+        if !kept {
+            *summary = Summary::EMPTY;
+        }
+        opened
+    }
+
+    fn opened(&self, registry: &[u8], timer: u32, clock: u32) -> Opened {
         let first = match self.fault() {
             Some(Fault::RegistryFirst) => self.registry(registry).map(|_| ()),
             _ => Ok(()),

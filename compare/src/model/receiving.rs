@@ -3,7 +3,8 @@
 use crate::record::{Covered, Record};
 use crate::segment::{Position, Segment};
 use crate::sound::OPEN;
-use crate::{Decision, Fault, Key, Machine, Place, Received, Refusal, Table};
+use crate::summary::{bill, Bill, Seats};
+use crate::{Decision, Fault, Key, Machine, Place, Received, Refusal, Summary, Table};
 use crate::{PARAMETER, PLACES, RECORD, STORE, STRETCH};
 
 /// The receiving line that applies, with the place it concerns.
@@ -37,17 +38,35 @@ struct Effect {
     write: Option<usize>,
 }
 
+/// A segment that is not refused.
+struct Taken<'a> {
+    segment: Segment<'a>,
+    line: Line,
+    /// The association's row, and what is added to it.
+    row: usize,
+    bill: Bill,
+}
+
+/// The lengths of the lent areas.
+struct Lengths {
+    store: usize,
+    report: usize,
+}
+
 impl<const B: bool> Machine<B> {
     pub fn segment(
         &self,
         table: Table,
+        summary: &mut Summary,
         store: &mut [u8],
         report: &mut [u8],
         association: u16,
         parameter: &[u8],
     ) -> Received {
-        match self.judge(&table, store.len(), report.len(), association, parameter) {
-            Ok((segment, line)) => {
+        let lengths = Lengths { store: store.len(), report: report.len() };
+        match self.judge(&table, summary, lengths, association, parameter) {
+            Ok(Taken { segment, line, row, bill }) => {
+                summary.add(row, association, &bill);
                 let effect = self.effect(&table, &segment, line);
                 self.carry_out(effect, &segment, table, store, report)
             }
@@ -55,27 +74,84 @@ impl<const B: bool> Machine<B> {
                 if self.broken(Fault::RefusedReport) {
                     report.iter_mut().take(1).for_each(|octet| *octet = refusal.number());
                 }
+                if self.broken(Fault::RefusedCounted) && refusal != Refusal::Unsound {
+                    count_refused(summary, association);
+                }
                 Received { table, refusal: refusal.number(), ..Received::default() }
             }
         }
     }
 
-    /// All the refusals, and the line.
+    /// All the refusals, and what the segment leads to where there is none.
     fn judge<'a>(
         &self,
         table: &Table,
-        store: usize,
-        report: usize,
+        summary: &Summary,
+        lengths: Lengths,
         association: u16,
         parameter: &'a [u8],
-    ) -> Result<(Segment<'a>, Line), Refusal> {
+    ) -> Result<Taken<'a>, Refusal> {
         self.sound(table)?;
-        Refusal::ShortStore.unless(store >= STORE)?;
-        Refusal::ShortReport.unless(report >= RECORD)?;
+        let mut seats = Seats::EMPTY;
+        self.take_seats(&mut seats, summary, &table.places)?;
+        Refusal::ShortStore.unless(lengths.store >= STORE)?;
+        Refusal::ShortReport.unless(lengths.report >= RECORD)?;
         Refusal::LongParameter.unless(parameter.len() <= PARAMETER)?;
         let segment = self.read(table, association, parameter)?;
+        if self.broken(Fault::RowBeforeFull) {
+            self.seat(&seats, summary, association)?;
+        }
+        if self.broken(Fault::TotalBeforeFull) {
+            self.account(&seats, summary, association, &[1, 0, 0, 0, 0, 0])?;
+        }
         let line = self.line(table, &segment)?;
-        Ok((segment, line))
+        let bill = self.bill_of(table, &segment, line);
+        let row = self.account(&seats, summary, association, &bill)?;
+        Ok(Taken { segment, line, row, bill })
+    }
+
+    /// Refusals 21 and 22, and else the row.
+    fn account(
+        &self,
+        seats: &Seats,
+        summary: &Summary,
+        association: u16,
+        bill: &Bill,
+    ) -> Result<usize, Refusal> {
+        let row = self.seat(seats, summary, association)?;
+        Refusal::LargeTotal.unless(self.payable(summary, row, bill))?;
+        Ok(row)
+    }
+
+    /// The segment is taken, whatever the line. What ends is delivered or lost.
+    fn bill_of(&self, table: &Table, segment: &Segment, line: Line) -> Bill {
+        let this = [1, segment.information.len() as u64];
+        let saved = |index: usize| {
+            let place = &table.places[index];
+            [place.segments.into(), place.octets.into()]
+        };
+        let and_this = |[segments, octets]: [u64; 2]| [segments + this[0], octets + this[1]];
+        let (delivered, lost) = match line {
+            Line::Begin(_) | Line::Continue(_) => ([0, 0], [0, 0]),
+            Line::Unsegmented => (this, [0, 0]),
+            Line::Finish(index) => (and_this(saved(index)), [0, 0]),
+            Line::TooMany(None) | Line::Orphan => ([0, 0], this),
+            Line::Restart(index) if self.broken(Fault::RestartBillsNew) => {
+                ([0, 0], and_this(saved(index)))
+            }
+            Line::Restart(index) => ([0, 0], saved(index)),
+            Line::TooMany(Some(index)) | Line::OutOfTurn(index) | Line::TooLong(index) => {
+                ([0, 0], and_this(saved(index)))
+            }
+        };
+        let at_once = matches!(line, Line::TooMany(None) | Line::Orphan);
+        match self.fault() {
+            Some(Fault::AtOnceUnbilled) if at_once => [0; 6],
+            Some(Fault::ParameterBilled) => {
+                bill([1, this[1] + segment.start as u64], delivered, lost)
+            }
+            _ => bill(this, delivered, lost),
+        }
     }
 
     fn line(&self, table: &Table, segment: &Segment) -> Result<Line, Refusal> {
@@ -289,4 +365,12 @@ fn first(table: &Table, segment: &Segment) -> Place {
 /// For `Fault::AddressNumber`: the address's octets without its leading zeros.
 fn number(key: &Key) -> impl Iterator<Item = &u8> {
     key.address[..key.length.into()].iter().skip_while(|octet| **octet == 0)
+}
+
+/// For `Fault::RefusedCounted`.
+fn count_refused(summary: &mut Summary, association: u16) {
+    let row = summary.used().find(|(_, other)| *other == u64::from(association));
+    if let Some((row, _)) = row {
+        summary.add(row, association, &[1, 0, 0, 0, 0, 0]);
+    }
 }

@@ -1,4 +1,4 @@
-//! Document 01's refusal numbers by name.
+//! The refusal numbers of documents 01 and 02 by name.
 
 #[derive(Clone, Copy, Debug, PartialEq, Eq)]
 #[repr(u8)]
@@ -23,6 +23,8 @@ pub enum Refusal {
     Room = 18,
     Number = 19,
     ShortArea = 20,
+    NoRow = 21,
+    LargeTotal = 22,
 }
 
 impl Refusal {

@@ -18,6 +18,19 @@ pub const TIMERS: RangeInclusive<u32> = 1..=1_000_000;
 pub const CONTEXTS: RangeInclusive<u16> = 1..=16_383;
 /// A record's reference where the parameter was not segmented.
 pub const UNSEGMENTED: u8 = 255;
+/// Rows of a summary.
+pub const ROWS: usize = 64;
+/// What a total may become, and no more.
+pub const TOTAL_MOST: u64 = 1 << 63;
+/// A row's totals, in the order of the columns.
+pub const TOTALS: [&str; 6] = [
+    "segments taken",
+    "octets taken",
+    "segments delivered",
+    "octets delivered",
+    "segments lost",
+    "octets lost",
+];
 
 #[repr(C)]
 #[derive(Clone, Copy, Debug, Default, PartialEq, Eq)]
@@ -118,4 +131,21 @@ pub struct Part {
     pub start: usize,
     pub length: usize,
     pub source: u8,
+}
+
+/// Column by column: row i is what each has at i.
+#[repr(C)]
+#[derive(Clone, Copy, Debug, PartialEq, Eq)]
+pub struct Summary {
+    /// 1 where the row is used, else 0.
+    pub mark: [u64; ROWS],
+    pub association: [u64; ROWS],
+    /// In the order of `TOTALS`.
+    pub totals: [[u64; ROWS]; TOTALS.len()],
+}
+
+impl Summary {
+    /// No row is used.
+    pub const EMPTY: Summary =
+        Summary { mark: [0; ROWS], association: [0; ROWS], totals: [[0; ROWS]; TOTALS.len()] };
 }

@@ -2,21 +2,87 @@
 
 use crate::record::{Covered, Record};
 use crate::sound::age;
-use crate::{Fault, Machine, Place, Refusal, Swept, Table, RECORD, SWEEP};
+use crate::summary::{bill, Bill, Seats};
+use crate::{Fault, Machine, Place, Refusal, Summary, Swept, Table, PLACES, RECORD, ROWS, SWEEP};
 
 const HALF: u32 = 1 << 31;
 
-impl<const B: bool> Machine<B> {
-    pub fn clock(&self, table: Table, report: &mut [u8], time: u32) -> Swept {
-        let step = age(time, table.clock);
-        let ahead = step < HALF || self.broken(Fault::ClockHalf) && step == HALF;
-        let ready = self.ready(&table, report).and_then(|()| Refusal::ClockStep.unless(ahead));
-        match ready {
-            Err(refusal) => refused(table, refusal),
-            Ok(()) => self.sweep(Table { clock: time, ..table }, report, 6, |place| {
-                self.expired(time, place.start, table.timer)
-            }),
+/// The open places that a call ends, in place order.
+struct Ending {
+    indices: [u8; PLACES],
+    count: usize,
+}
+
+impl Ending {
+    fn of(places: &[Place; PLACES], meant: impl Fn(&Place) -> bool) -> Ending {
+        let mut ending = Ending { indices: [0; PLACES], count: 0 };
+        for (index, place) in places.iter().enumerate() {
+            if place.is_open() && meant(place) {
+                ending.indices[ending.count] = index as u8;
+                ending.count += 1;
+            }
         }
+        ending
+    }
+
+    fn indices(&self) -> impl Iterator<Item = usize> + '_ {
+        self.indices[..self.count].iter().map(|index| usize::from(*index))
+    }
+}
+
+/// Segments and octets saved in a place.
+fn saved(place: &Place) -> [u64; 2] {
+    [place.segments.into(), place.octets.into()]
+}
+
+fn lost(amount: [u64; 2]) -> Bill {
+    bill([0, 0], [0, 0], amount)
+}
+
+fn refused(table: Table, refusal: Refusal) -> Swept {
+    Swept { table, refusal: refusal.number(), records: 0 }
+}
+
+impl<const B: bool> Machine<B> {
+    pub fn clock(
+        &self,
+        table: Table,
+        summary: &mut Summary,
+        report: &mut [u8],
+        time: u32,
+    ) -> Swept {
+        let mut seats = Seats::EMPTY;
+        match self.due(&table, summary, &mut seats, report.len(), time) {
+            Err(refusal) => refused(table, refusal),
+            Ok(ending) => {
+                self.bill(&table, summary, &seats, &ending);
+                self.sweep(Table { clock: time, ..table }, report, 6, &ending)
+            }
+        }
+    }
+
+    /// The clock's refusals, and what it ends.
+    fn due(
+        &self,
+        table: &Table,
+        summary: &Summary,
+        seats: &mut Seats,
+        report: usize,
+        time: u32,
+    ) -> Result<Ending, Refusal> {
+        self.ready(table, summary, seats, report)?;
+        let due = |place: &Place| self.expired(time, place.start, table.timer);
+        let ending = Ending::of(&table.places, due);
+        if self.broken(Fault::TotalBeforeStep) {
+            self.billable(table, summary, seats, &ending)?;
+        }
+        self.ahead(age(time, table.clock))?;
+        self.billable(table, summary, seats, &ending)?;
+        Ok(ending)
+    }
+
+    fn ahead(&self, step: u32) -> Result<(), Refusal> {
+        Refusal::ClockStep.unless(step < HALF || self.broken(Fault::ClockHalf) && step == HALF)
     }
 
     fn expired(&self, time: u32, start: u32, timer: u32) -> bool {
@@ -27,40 +93,93 @@ impl<const B: bool> Machine<B> {
         }
     }
 
-    pub fn release(&self, table: Table, report: &mut [u8], association: u16) -> Swept {
-        let all = self.broken(Fault::ReleaseAll);
-        match self.ready(&table, report) {
+    pub fn release(
+        &self,
+        table: Table,
+        summary: &mut Summary,
+        report: &mut [u8],
+        association: u16,
+    ) -> Swept {
+        let mut seats = Seats::EMPTY;
+        match self.released(&table, summary, &mut seats, report.len(), association) {
             Err(refusal) => refused(table, refusal),
-            Ok(()) => {
-                self.sweep(table, report, 7, |place| all || place.key.association == association)
+            Ok(ending) => {
+                if !self.broken(Fault::ReleaseUnbilled) {
+                    self.bill(&table, summary, &seats, &ending);
+                }
+                self.sweep(table, report, 7, &ending)
             }
         }
     }
 
-    fn ready(&self, table: &Table, report: &[u8]) -> Result<(), Refusal> {
-        self.sound(table)?;
-        Refusal::ShortReport.unless(report.len() >= SWEEP)
+    /// The release's refusals, and what it ends.
+    fn released(
+        &self,
+        table: &Table,
+        summary: &Summary,
+        seats: &mut Seats,
+        report: usize,
+        association: u16,
+    ) -> Result<Ending, Refusal> {
+        self.ready(table, summary, seats, report)?;
+        let all = self.broken(Fault::ReleaseAll);
+        let meant = |place: &Place| all || place.key.association == association;
+        let ending = Ending::of(&table.places, meant);
+        self.billable(table, summary, seats, &ending)?;
+        Ok(ending)
     }
 
-    /// Each open place that is meant gives one loss, in place order. The report holds one for each.
-    fn sweep(
+    fn ready(
         &self,
-        mut table: Table,
-        report: &mut [u8],
-        cause: u8,
-        meant: impl Fn(&Place) -> bool,
-    ) -> Swept {
-        let ending = table.places.iter_mut().filter(|place| place.is_open() && meant(place));
-        let mut records = 0;
-        for (place, slot) in ending.zip(report.chunks_exact_mut(RECORD)) {
+        table: &Table,
+        summary: &Summary,
+        seats: &mut Seats,
+        report: usize,
+    ) -> Result<(), Refusal> {
+        self.sound(table)?;
+        self.take_seats(seats, summary, &table.places)?;
+        Refusal::ShortReport.unless(report >= SWEEP)
+    }
+
+    /// Refusal 22: the losses of one association count by their sum.
+    fn billable(
+        &self,
+        table: &Table,
+        summary: &Summary,
+        seats: &Seats,
+        ending: &Ending,
+    ) -> Result<(), Refusal> {
+        if ending.count == 0 {
+            return Ok(());
+        }
+        let mut sums = [[0; 2]; ROWS];
+        let good = ending.indices().all(|index| {
+            let row = usize::from(seats.of_places[index]) % ROWS;
+            let one = saved(&table.places[index]);
+            let sum = &mut sums[row];
+            *sum = match self.broken(Fault::LossesAlone) {
+                true => one,
+                false => [sum[0] + one[0], sum[1] + one[1]],
+            };
+            self.payable(summary, row, &lost(*sum))
+        });
+        Refusal::LargeTotal.unless(good)
+    }
+
+    fn bill(&self, table: &Table, summary: &mut Summary, seats: &Seats, ending: &Ending) {
+        for index in ending.indices() {
+            let (row, place) = (usize::from(seats.of_places[index]) % ROWS, &table.places[index]);
+            summary.add(row, place.key.association, &lost(saved(place)));
+        }
+    }
+
+    /// Each place that ends gives one loss. The report holds one for each.
+    fn sweep(&self, mut table: Table, report: &mut [u8], cause: u8, ending: &Ending) -> Swept {
+        for (index, slot) in ending.indices().zip(report.chunks_exact_mut(RECORD)) {
+            let place = &mut table.places[index];
             slot.copy_from_slice(&self.octets(&Record { cause, covered: Covered::saved(place) }));
             *place = self.freed(place);
-            records += 1;
         }
-        Swept { table, refusal: 0, records }
+        Swept { table, refusal: 0, records: ending.count as u8 }
     }
-}
-
-fn refused(table: Table, refusal: Refusal) -> Swept {
-    Swept { table, refusal: refusal.number(), records: 0 }
 }

@@ -1,4 +1,4 @@
-//! Document 01's worked examples.
+//! Document 01's worked examples, and A1's rules.
 
 use crate::*;
 
@@ -8,28 +8,48 @@ const MODEL: Model = Model::PLAIN;
 /// A host: a table with its lent areas, and what the last call answered.
 struct Host {
     table: Table,
+    summary: Summary,
     store: Vec<u8>,
     report: Vec<u8>,
 }
 
 impl Host {
     fn open(clock: u32) -> Host {
-        let opened = MODEL.opening(&REGISTRY, 100, clock);
-        assert_eq!(opened.refusal, 0);
-        Host { table: opened.table, store: vec![0xEE; STORE], report: vec![0xEE; SWEEP] }
+        let mut summary = Summary { mark: [7; ROWS], ..Summary::EMPTY };
+        let opened = MODEL.opening(&mut summary, &REGISTRY, 100, clock);
+        assert_eq!((opened.refusal, summary), (0, Summary::EMPTY));
+        let (store, report) = (vec![0xEE; STORE], vec![0xEE; SWEEP]);
+        Host { table: opened.table, summary, store, report }
     }
 
     fn segment(&mut self, parameter: &[u8]) -> Received {
-        let (store, report) = (&mut self.store, &mut self.report);
-        let received = MODEL.segment(self.table, store, report, 9, parameter);
+        self.segment_of(9, parameter)
+    }
+
+    fn segment_of(&mut self, association: u16, parameter: &[u8]) -> Received {
+        let Host { table, summary, store, report } = self;
+        let received = MODEL.segment(*table, summary, store, report, association, parameter);
         self.table = received.table;
         received
     }
 
     fn clock(&mut self, time: u32) -> Swept {
-        let swept = MODEL.clock(self.table, &mut self.report, time);
+        let swept = MODEL.clock(self.table, &mut self.summary, &mut self.report, time);
         self.table = swept.table;
         swept
+    }
+
+    fn release(&mut self, association: u16) -> Swept {
+        let Host { table, summary, report, .. } = self;
+        let swept = MODEL.release(*table, summary, report, association);
+        self.table = swept.table;
+        swept
+    }
+
+    /// The used rows, each with its number, its association and its totals.
+    fn rows(&self) -> Vec<(usize, u64, [u64; 6])> {
+        let totals = |row: usize| self.summary.totals.each_ref().map(|column| column[row]);
+        self.summary.used().map(|(row, association)| (row, association, totals(row))).collect()
     }
 
     fn data(&self, received: &Received, parameter: &[u8]) -> Vec<u8> {
@@ -59,7 +79,7 @@ fn refusal(parameter: &[u8]) -> u8 {
     let mut host = Host::open(0);
     let table = host.table;
     let received = host.segment(parameter);
-    assert_eq!(received.table, table);
+    assert_eq!((received.table, host.summary), (table, Summary::EMPTY));
     assert_eq!((received.records, received.decision), (0, Decision::default()));
     assert!(host.store.iter().chain(&host.report).all(|octet| *octet == 0xEE));
     received.refusal
@@ -322,4 +342,149 @@ fn restart_and_losses() {
     assert_eq!((cause(&host, &received), received.decision.place), (4, 0));
     assert_eq!(host.report[..RECORD], record(17, 3, [5, 2, 4, 2], 3, &[]));
     assert_eq!(host.open_places(), 0);
+}
+
+const ALONE: [u8; 5] = [0x83, 0x80, 0xC0, 0xAA, 0xBB];
+const FIRST: [u8; 5] = [0x83, 0x80, 0x42, 0x85, 0xAA];
+const NEXT: [u8; 6] = [0x83, 0x80, 0x01, 0x85, 0xBB, 0xCC];
+const ORPHAN: [u8; 5] = [0x83, 0x80, 0x00, 0x99, 0xDD];
+
+/// Taken, delivered and lost, by every kind of ending; the lowest unused rows, in turn.
+#[test]
+fn totals_of_a_life() {
+    let mut host = Host::open(0);
+    host.segment_of(0, &ALONE);
+    assert_eq!(host.rows(), [(0, 0, [1, 2, 1, 2, 0, 0])]);
+    host.segment_of(9, &ORPHAN);
+    assert_eq!(host.rows()[1], (1, 9, [1, 1, 0, 0, 1, 1]));
+    host.segment_of(9, &FIRST);
+    host.segment_of(9, &NEXT);
+    assert_eq!(host.rows()[1], (1, 9, [3, 4, 0, 0, 1, 1]));
+    // A restart loses what was saved, and the new segment is held.
+    host.segment_of(9, &FIRST);
+    assert_eq!(host.rows()[1], (1, 9, [4, 5, 0, 0, 3, 4]));
+    host.release(9);
+    assert_eq!(host.rows()[1], (1, 9, [4, 5, 0, 0, 4, 5]));
+    host.segment_of(7, &FIRST);
+    host.segment_of(7, &[0x83, 0x80]);
+    host.clock(100);
+    assert_eq!(host.rows()[2], (2, 7, [1, 1, 0, 0, 1, 1]));
+    assert_eq!(host.release(60_000).refusal, 0);
+    assert_eq!(host.rows().len(), 3);
+}
+
+/// Who has no row meets 21, even where the segment would be lost at once; 10 comes first.
+#[test]
+fn the_65th_association() {
+    let mut host = Host::open(0);
+    (0..64).for_each(|association| assert_eq!(host.segment_of(association, &ALONE).refusal, 0));
+    let before = host.summary;
+    for parameter in [&ALONE[..], &FIRST, &ORPHAN, &[0x83, 0x80, 0x4A, 0x85]] {
+        assert_eq!(host.segment_of(64, parameter).refusal, 21);
+    }
+    assert_eq!(host.summary, before);
+    assert_eq!((host.segment_of(63, &ALONE).refusal, host.open_places()), (0, 0));
+    (0..16).for_each(|association| assert_eq!(host.segment_of(association, &FIRST).refusal, 0));
+    assert_eq!(host.segment_of(64, &FIRST).refusal, 10);
+    assert_eq!(host.segment_of(64, &ALONE).refusal, 21);
+    host.summary.totals[0][20] = TOTAL_MOST;
+    assert_eq!(host.segment_of(20, &FIRST).refusal, 10);
+    assert_eq!(host.segment_of(20, &ALONE).refusal, 22);
+}
+
+/// 2^63 and no more; a number to which nothing is added stays, whatever it is.
+#[test]
+fn totals_at_their_limit() {
+    let mut host = Host::open(0);
+    host.segment(&FIRST);
+    for (column, most) in [(0, TOTAL_MOST - 1), (1, TOTAL_MOST - 2)] {
+        let mut tried = Host::open(0);
+        (tried.table, tried.summary) = (host.table, host.summary);
+        tried.summary.totals[column][0] = most + 1;
+        let before = tried.summary;
+        assert_eq!((tried.segment(&NEXT).refusal, tried.summary), (22, before));
+        tried.summary.totals[column][0] = most;
+        tried.summary.totals[2][0] = u64::MAX;
+        assert_eq!(tried.segment(&NEXT).refusal, 0);
+        assert_eq!(tried.summary.totals[column][0], TOTAL_MOST);
+        assert_eq!(tried.summary.totals[2][0], u64::MAX);
+    }
+    host.summary.totals[1][0] = u64::MAX;
+    assert_eq!(host.segment(&[0x83, 0x80, 0x01, 0x85]).refusal, 0);
+    assert_eq!(host.segment(&ORPHAN).refusal, 22);
+}
+
+/// Two losses of one octet each: both fit alone, and not together.
+#[test]
+fn losses_by_their_sum() {
+    for (room, refusal) in [(2, 0), (1, 22)] {
+        for release in [false, true] {
+            let mut host = Host::open(0);
+            host.segment(&FIRST);
+            host.segment(&[0x83, 0x80, 0x42, 0x86, 0xAA]);
+            host.summary.totals[5][0] = TOTAL_MOST - room;
+            let before = (host.table, host.summary);
+            let swept = if release { host.release(9) } else { host.clock(100) };
+            assert_eq!(swept.refusal, refusal);
+            let changed = (host.table, host.summary) != before;
+            assert_eq!((swept.records, changed), if refusal == 0 { (2, true) } else { (0, false) });
+        }
+    }
+}
+
+#[test]
+fn sound_summaries() {
+    let mut host = Host::open(0);
+    host.segment(&FIRST);
+    let mut good = host.summary;
+    for row in [3, 40] {
+        (good.mark[row], good.association[row]) = (1, row as u64 + 65_000);
+    }
+    let mut refusal = |change: &dyn Fn(&mut Summary)| {
+        (host.table, host.summary) = (host.table, good);
+        change(&mut host.summary);
+        let changed = host.summary;
+        let number = host.release(8).refusal;
+        assert_eq!(host.summary, changed);
+        number
+    };
+    assert_eq!(refusal(&|_| {}), 0);
+    assert_eq!(refusal(&|summary| summary.totals = [[0; ROWS]; 6]), 0);
+    assert_eq!(refusal(&|summary| summary.totals[4][3] = u64::MAX), 0);
+    assert_eq!(refusal(&|summary| summary.association[40] = 0), 0);
+    assert_eq!(refusal(&|summary| summary.mark[3] = 2), 1);
+    assert_eq!(refusal(&|summary| summary.mark[5] = 2), 1);
+    assert_eq!(refusal(&|summary| summary.association[40] = 65_536), 1);
+    assert_eq!(refusal(&|summary| summary.association[40] = 9), 1);
+    assert_eq!(refusal(&|summary| summary.association[0] = 8), 1);
+    assert_eq!(refusal(&|summary| (summary.mark[0], summary.association[0]) = (0, 0)), 1);
+    assert_eq!(refusal(&|summary| summary.association[1] = 1), 1);
+    (0..6).for_each(|column| assert_eq!(refusal(&|summary| summary.totals[column][63] = 1), 1));
+}
+
+#[test]
+fn totals_lines() {
+    let totals = |trace: &[Vec<u8>]| MODEL.printed(&trace.concat(), crate::Output::Totals);
+    let first = event(&[0x83, 0x81, 0x41, 0x85, 0xAA]);
+    let zero = [vec![32], vec![0; 8]].concat();
+    let registry = vec![1, 0, 3];
+    assert_eq!(totals(&[]), "");
+    assert_eq!(totals(&[registry.clone(), first.clone()]), "");
+    assert_eq!(totals(&[registry.clone(), first.clone(), vec![16]]), "stop\n");
+    let trace = [registry.clone(), first.clone(), OPEN.to_vec()];
+    assert_eq!(totals(&trace), "opening 2 0\n");
+    let trace = [
+        registry.clone(),
+        OPEN.to_vec(),
+        first.clone(),
+        event(&[0x83, 0x80, 0x00, 0x85, 0xBB, 0xCC]),
+        event(&[0x83, 0x80]),
+        zero,
+        first.clone(),
+        OPEN.to_vec(),
+        first,
+        registry,
+    ];
+    let expected = "opening 1 0\n9 2 3 2 3 0 0\nopening 5 12\nopening 7 0\n9 1 1 0 0 0 0\nstop\n";
+    assert_eq!(totals(&trace), expected);
 }

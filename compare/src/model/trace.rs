@@ -3,7 +3,8 @@
 use std::fmt::Write;
 
 use crate::cursor::Cursor;
-use crate::{Decision, Fault, Machine, Opened, Table, PARAMETER, RECORD, STORE, SWEEP};
+use crate::{Decision, Fault, Machine, Received, Summary, Table};
+use crate::{PARAMETER, RECORD, STORE, SWEEP};
 
 /// Which program's text is printed.
 #[derive(Clone, Copy, Debug, PartialEq, Eq)]
@@ -12,6 +13,8 @@ pub enum Output {
     Lines,
     /// The records program's: more on each line, and what the event did under it (`listing`).
     Records,
+    /// The totals program's: the rows that each opening leads to.
+    Totals,
 }
 
 /// One record of a trace.
@@ -30,7 +33,15 @@ enum Stop {
     RegistryAfterOpen,
 }
 
-/// A replay that is under way: the table, the lent areas and the registry as read so far.
+/// What a call answered, as far as it is told.
+struct Told {
+    name: &'static str,
+    refusal: u8,
+    records: u8,
+    decision: Decision,
+}
+
+/// A replay that is under way: table, summary, lent areas and the registry as read so far.
 pub struct Replay<const B: bool> {
     pub(crate) model: Machine<B>,
     output: Output,
@@ -38,7 +49,10 @@ pub struct Replay<const B: bool> {
     opened: bool,
     stopped: bool,
     events: u64,
+    /// The last opening: its event and its refusal.
+    pub(crate) opening: Option<(u64, u8)>,
     pub(crate) table: Table,
+    pub(crate) summary: Summary,
     store: Vec<u8>,
     pub(crate) report: [u8; SWEEP],
 }
@@ -96,7 +110,9 @@ impl<const B: bool> Replay<B> {
             opened: false,
             stopped: false,
             events: 0,
+            opening: None,
             table: Table::default(),
+            summary: Summary::EMPTY,
             store: vec![0; STORE],
             report: [0; SWEEP],
         }
@@ -129,63 +145,94 @@ impl<const B: bool> Replay<B> {
 
     /// What comes after the last event's lines.
     fn last(&self, stop: bool, text: &mut String) {
-        if self.output == Output::Records {
-            self.held(text);
+        match self.output {
+            Output::Lines => {}
+            Output::Records => self.held(text),
+            Output::Totals => self.rows(text),
         }
         if stop {
             text.push_str("stop\n");
         }
     }
 
-    /// The record's line: none for a registry record.
+    /// A record of the trace: all but a registry record are events.
     fn step(&mut self, octets: &[u8], item: Item, text: &mut String) -> Result<(), Stop> {
-        let model = self.model;
-        let report = &mut self.report;
-        let (mut decision, mut dropped) = (Decision::default(), String::new());
-        let (name, table, refusal, records) = match item {
-            Item::Register if self.opened && !model.broken(Fault::RegistryAfterOpen) => {
+        if let Item::Register = item {
+            if self.opened && !self.model.broken(Fault::RegistryAfterOpen) {
                 return Err(Stop::RegistryAfterOpen);
             }
-            Item::Register => {
-                self.registry.extend_from_slice(octets);
-                return Ok(());
+            self.registry.extend_from_slice(octets);
+            return Ok(());
+        }
+        let mut dropped = String::new();
+        if let Item::Open { .. } = item {
+            match self.output {
+                Output::Lines => {}
+                Output::Records => self.dropped(&mut dropped),
+                Output::Totals if self.model.broken(Fault::LastOpeningOnly) => {}
+                Output::Totals => self.rows(text),
             }
+        }
+        self.events += 1;
+        let told = self.event(item);
+        self.tell(&told, &dropped, text);
+        Ok(())
+    }
+
+    /// What is printed after an event.
+    fn tell(&self, told: &Told, dropped: &str, text: &mut String) {
+        match self.output {
+            Output::Lines => {
+                self.line(told, text);
+                text.push('\n');
+            }
+            Output::Records => {
+                self.line(told, text);
+                self.told(self.events, told.refusal, &told.decision, text);
+                text.push('\n');
+                self.records(usize::from(told.records), text);
+                text.push_str(dropped);
+            }
+            Output::Totals => {}
+        }
+    }
+
+    /// Makes the event's call.
+    fn event(&mut self, item: Item) -> Told {
+        let Replay { model, table, summary, store, report, .. } = self;
+        let decision = Decision::default();
+        match item {
+            Item::Register => unreachable!("it is no event"),
             Item::Open { timer, clock } => {
-                self.opened = true;
-                if self.output == Output::Records {
-                    self.dropped(&mut dropped);
-                }
-                let Opened { table, refusal } = model.opening(&self.registry, timer, clock);
-                ("open", table, refusal, 0)
+                let opened = model.opening(summary, &self.registry, timer, clock);
+                *table = opened.table;
+                (self.opened, self.opening) = (true, Some((self.events, opened.refusal)));
+                Told { name: "open", refusal: opened.refusal, records: 0, decision }
             }
             Item::Segment { association, parameter } => {
-                let store = &mut self.store;
-                let got = model.segment(self.table, store, report, association, parameter);
-                decision = got.decision;
-                ("segment", got.table, got.refusal, got.records)
+                let got = model.segment(*table, summary, store, report, association, parameter);
+                *table = got.table;
+                let Received { decision, refusal, records, .. } = got;
+                Told { name: "segment", refusal, records, decision }
             }
             Item::Clock(time) => {
-                let swept = model.clock(self.table, report, time);
-                ("clock", swept.table, swept.refusal, swept.records)
+                let swept = model.clock(*table, summary, report, time);
+                *table = swept.table;
+                Told { name: "clock", refusal: swept.refusal, records: swept.records, decision }
             }
             Item::Release(association) => {
-                let swept = model.release(self.table, report, association);
-                ("release", swept.table, swept.refusal, swept.records)
+                let swept = model.release(*table, summary, report, association);
+                *table = swept.table;
+                Told { name: "release", refusal: swept.refusal, records: swept.records, decision }
             }
-        };
-        self.table = table;
-        self.events += 1;
-        let [delivered, lost] = self.octets(usize::from(records));
+        }
+    }
+
+    /// The replay program's line, without its end.
+    fn line(&self, told: &Told, text: &mut String) {
+        let Told { name, refusal, records, .. } = told;
+        let [delivered, lost] = self.octets(usize::from(*records));
         write!(text, "{name} {refusal} {records} {delivered} {lost}").expect("a string takes it");
-        if self.output == Output::Records {
-            self.told(self.events, refusal, &decision, text);
-        }
-        text.push('\n');
-        if self.output == Output::Records {
-            self.records(usize::from(records), text);
-            text.push_str(&dropped);
-        }
-        Ok(())
     }
 
     /// Octets delivered and octets lost, by the records that this call made.

@@ -2,16 +2,17 @@
 use Prim.Native.Nat.{ℕ, _<_, _^_}
 use native.Mathlib.Omega.{arith}
 use borrow.Author.Tests.{ne-eqb}
-use mathlib.Core.Path.{_≡_, refl, sym, subst, _∙_}
+use mathlib.Core.Path.{_≡_, refl, sym, ap, subst, _∙_}
 use mathlib.Core.List.{List, []}
 use lib.ListN.{length}
 use Rattle.rules.specs.Numbers.{placeCount}
 use Rattle.rules.specs.Places.{holds, placeOf, numberOf, foundAt}
 use Rattle.rules.specs.Delivery.{delivery}
-use Rattle.rules.specs.Receiving.{Reception, keyOf, effectOf, segment}
+use Rattle.rules.specs.Receiving.{Reception, keyOf, effectOf}
+use Rattle.rules.specs.Summary.{Counted, segmentWith, emptySummary}
 use Rattle.rules.specs.Layout.{fieldsOf}
 use Rattle.rules.specs.Promises.{OfOpening, OfSegment, OfClock, OfRelease, OfSending}
-use Rattle.rules.specs.Calls.{State, stateOf, step, toArrive, toTick, toRelease, toSend, afterSegment, afterSweep, afterSending}
+use Rattle.rules.specs.Calls.{State, stateOf, step, toArrive, toTick, toRelease, toSend, afterSending}
 use Rattle.rules.specs.declared.Key.{Key}
 use Rattle.rules.specs.declared.Place.{Place}
 use Rattle.rules.specs.declared.Table.{Table}
@@ -35,34 +36,41 @@ use Rattle.host.specs.declared.CReceived.{CReceived}
 use Rattle.host.specs.Promises.{HostSegment, HostDelivery}
 use Rattle.demands.specs.Machine.{Typed}
 use Rattle.demands.specs.Seen.{Seen, seenOf}
+use Rattle.demands.specs.Exactly.{ByRules}
 use Rattle.demands.specs.Demanded.{Demanded, Begun}
 use Rattle.demands.proofs.Demanded.{demanded, begun}
-use Rattle.demanded.specs.Demanded.{seenOpening, seenClock, DemandedOpening, DemandedSegment, DemandedClock, DemandedRelease, DemandedSending, DemandedC}
+use Rattle.demanded.specs.Demanded.{seenOpening, seenClock, seenRelease, leaving, DemandedOpening, DemandedSegment, DemandedClock, DemandedRelease, DemandedSending, DemandedC}
 use Rattle.demanded.specs.declared.Handed.{Handed}
 
-pub of-opening : (registry : List ℕ) (timer time : ℕ) (r : Opened) → time < 2 ^ 32 → OfOpening registry timer time r → DemandedOpening registry timer time r
+pub of-opening : (registry : List ℕ) (timer time : ℕ) (r : Opened) (m′ : List ℕ) → time < 2 ^ 32 → OfOpening registry timer time r m′ → DemandedOpening registry timer time r m′
 unfolding step
-of-opening registry timer time r early k st =
-    subst (λ (r : Opened). Begun (seenOpening st registry timer time r)) (sym (k .answered))
-    (begun st (record { registry = registry; timer = timer; time = time }) early)
+of-opening registry timer time r m′ early k st =
+    let seen : _ ≡ _ = λ i. seenOpening st registry timer time (k .answered i) (k .summed i) in
+    subst Begun (sym seen) (begun st (record { registry = registry; timer = timer; time = time }) early)
 
-pub of-clock : (t : Table) (report : List ℕ) (time : ℕ) (r : Swept) (report′ : List ℕ) → time < 2 ^ 32 → OfClock t report time r report′ → DemandedClock t report time r report′
+-- an opening leaves the summary empty
+pub emptied : (st : State) (registry : List ℕ) (timer time : ℕ) (r : Opened) (m′ : List ℕ) → ByRules (seenOpening st registry timer time r m′) → m′ ≡ emptySummary
 unfolding step
-of-clock t report time r report′ early k store =
-    let seen : _ ≡ _ = λ i. seenClock t store report time (k .answered i) (k .reported i) in
-    subst Demanded (sym seen) (demanded (stateOf t store) (toTick time report) early refl)
+emptied st registry timer time r m′ e = ap (λ (x : State). x .summary) (e .state)
 
-pub of-release : (t : Table) (report : List ℕ) (association : ℕ) (r : Swept) (report′ : List ℕ) → association < 2 ^ 16 → OfRelease t report association r report′
-    → DemandedRelease t report association r report′
+pub of-clock : (t : Table) (m report : List ℕ) (time : ℕ) (r : Swept) (m′ report′ : List ℕ) → time < 2 ^ 32 → OfClock t m report time r m′ report′
+    → DemandedClock t m report time r m′ report′
 unfolding step
-of-release t report association r report′ small k store =
-    let seen : _ ≡ _ = λ i. seenOf (stateOf t store) (toRelease association report) (afterSweep store (record { answer = k .answered i; report = k .reported i })) [] in
-    subst Demanded (sym seen) (demanded (stateOf t store) (toRelease association report) small refl)
+of-clock t m report time r m′ report′ early k store =
+    let seen : _ ≡ _ = λ i. seenClock t m store report time (k .answered i) (k .summed i) (k .reported i) in
+    subst Demanded (sym seen) (demanded (stateOf t m store) (toTick time report) early refl)
+
+pub of-release : (t : Table) (m report : List ℕ) (association : ℕ) (r : Swept) (m′ report′ : List ℕ) → association < 2 ^ 16 → OfRelease t m report association r m′ report′
+    → DemandedRelease t m report association r m′ report′
+unfolding step
+of-release t m report association r m′ report′ small k store =
+    let seen : _ ≡ _ = λ i. seenRelease t m store report association (k .answered i) (k .summed i) (k .reported i) in
+    subst Demanded (sym seen) (demanded (stateOf t m store) (toRelease association report) small refl)
 
 pub of-sending : (t : Table) (q : Request) (o d whole area : List ℕ) (r : Sent) (area′ : List ℕ) → OfSending t q o d whole area r area′ → DemandedSending t q o d whole area r area′
 unfolding step
-of-sending t q o d whole area r area′ k store =
-    let st : State = stateOf t store in
+of-sending t q o d whole area r area′ k m store =
+    let st : State = stateOf t m store in
     let seen : _ ≡ _ = λ i. seenOf st (toSend q o d whole area) (afterSending st (record { answer = k .answered i; area = k .written i })) [] in
     subst Demanded (sym seen) (demanded st (toSend q o d whole area) tt refl)
 
@@ -98,38 +106,41 @@ line-back Next t store k f octets found p vacant e = refl
 abbrev decided : CReceived → Decision → Received
 decided r d = record { table = r .table; decision = d; refusal = r .refusal; records = r .records }
 
-module _ (t : Table) (store report : List ℕ) (association : ℕ) (s : List ℕ) where
+module _ (t : Table) (m store report : List ℕ) (association : ℕ) (s : List ℕ) where
   -- what the rule makes of a segment
-  abbrev ruled : Reception
-  ruled = segment t store report association s
+  abbrev ruled : Counted Reception
+  ruled = segmentWith t m store report association s
+
+  abbrev decision : Decision
+  decision = ruled .call .answer .decision
 
   -- its decision crosses as it is
-  decision-back : Typed t → decisionOf (cDecisionOf (ruled .answer .decision)) ≡ ruled .answer .decision
+  decision-back : Typed t → decisionOf (cDecisionOf decision) ≡ decision
   decision-back typed =
-      segment-by (λ (o : Reception). decisionOf (cDecisionOf (o .answer .decision)) ≡ o .answer .decision) t store report association s
+      segment-by t m store report association s (λ (o : Reception). decisionOf (cDecisionOf (o .answer .decision)) ≡ o .answer .decision)
       (λ _. line-back _ t store _ _ _ _ _ _ (place-back (keyOf association s (fieldsOf (t .registry) s)) (t .places) (typed .count)))
       (λ _. refl)
 
-  abbrev seenSegment : Received → List ℕ → List ℕ → List ℕ → Seen
-  seenSegment r store′ report′ handed =
-      seenOf (stateOf t store) (toArrive association s report) (afterSegment (record { answer = r; store = store′; report = report′ })) handed
+  abbrev seenSegment : Received → List ℕ → List ℕ → List ℕ → List ℕ → Seen
+  seenSegment r m′ store′ report′ handed = seenOf (stateOf t m store) (toArrive association s report) (leaving r m′ store′ report′) handed
 
-  ruled-demanded : association < 2 ^ 16 → Demanded (seenSegment (ruled .answer) (ruled .store) (ruled .report) (delivery (ruled .answer .decision) s (ruled .store)))
+  ruled-demanded : association < 2 ^ 16
+      → Demanded (seenSegment (ruled .call .answer) (ruled .summary) (ruled .call .store) (ruled .call .report) (delivery decision s (ruled .call .store)))
   unfolding step
-  ruled-demanded small = demanded (stateOf t store) (toArrive association s report) small refl
+  ruled-demanded small = demanded (stateOf t m store) (toArrive association s report) small refl
 
-  pub of-segment : (r : Received) (store′ report′ : List ℕ) → association < 2 ^ 16 → OfSegment t store report association s r store′ report′
-      → DemandedSegment t store report association s r store′ report′
-  of-segment r store′ report′ small k handed d =
-      let h : handed ≡ delivery (ruled .answer .decision) s (ruled .store) = d .handed ∙ (λ i. delivery (k .answered i .decision) s (k .stored i)) in
-      let seen : _ ≡ _ = λ i. seenSegment (k .answered i) (k .stored i) (k .reported i) (h i) in
+  pub of-segment : (r : Received) (m′ store′ report′ : List ℕ) → association < 2 ^ 16 → OfSegment t m store report association s r m′ store′ report′
+      → DemandedSegment t m store report association s r m′ store′ report′
+  of-segment r m′ store′ report′ small k handed d =
+      let h : handed ≡ delivery decision s (ruled .call .store) = d .handed ∙ (λ i. delivery (k .answered i .decision) s (k .stored i)) in
+      let seen : _ ≡ _ = λ i. seenSegment (k .answered i) (k .summed i) (k .stored i) (k .reported i) (h i) in
       subst Demanded (sym seen) (ruled-demanded small)
 
-  pub of-c-segment : (r : Handed) (store′ report′ : List ℕ) → Typed t → association < 2 ^ 16 → HostSegment t store report association s (r .received) store′ report′
-      → HostDelivery (r .received .decision) s store′ (r .part) → DemandedC t store report association s r store′ report′
-  of-c-segment r store′ report′ typed small k d =
-      let decision : decisionOf (r .received .decision) ≡ ruled .answer .decision = (λ i. decisionOf (k .answered i .decision)) ∙ decision-back typed in
-      let h : taken (r .part) s store′ ≡ delivery (ruled .answer .decision) s (ruled .store)
-      = d .delivered ∙ (λ i. delivery (decisionOf (k .answered i .decision)) s (k .stored i)) ∙ handed-back (ruled .answer .decision) s (ruled .store) in
-      let seen : _ ≡ _ = λ i. seenSegment (decided (k .answered i) (decision i)) (k .stored i) (k .reported i) (h i) in
+  pub of-c-segment : (r : Handed) (m′ store′ report′ : List ℕ) → Typed t → association < 2 ^ 16 → HostSegment t m store report association s (r .received) m′ store′ report′
+      → HostDelivery (r .received .decision) s store′ (r .part) → DemandedC t m store report association s r m′ store′ report′
+  of-c-segment r m′ store′ report′ typed small k d =
+      let same : decisionOf (r .received .decision) ≡ decision = (λ i. decisionOf (k .answered i .decision)) ∙ decision-back typed in
+      let h : taken (r .part) s store′ ≡ delivery decision s (ruled .call .store)
+      = d .delivered ∙ (λ i. delivery (decisionOf (k .answered i .decision)) s (k .stored i)) ∙ handed-back decision s (ruled .call .store) in
+      let seen : _ ≡ _ = λ i. seenSegment (decided (k .answered i) (same i)) (k .summed i) (k .stored i) (k .reported i) (h i) in
       subst Demanded (sym seen) (ruled-demanded small)

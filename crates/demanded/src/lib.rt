@@ -25,22 +25,23 @@ pub struct Both {
 
 // THE PUBLIC CALLS
 
-pub fn opening(registry: &[u8], timer: u32, clock: u32) -> Opened
-    ensures { λ r. ⌜ DemandedOpening (now (registry .entry)) timer clock r ⌝ }
+pub fn opening(m: &mut [u64; rules::SUMMARY], registry: &[u8], timer: u32, clock: u32) -> Opened
+    ensures { λ r. ⌜ DemandedOpening (now (registry .entry)) timer clock r (now (m .exit)) ⌝ }
 {
-    opening::opening(registry, timer, clock)
+    opening::opening(m, registry, timer, clock)
 }
 
 pub fn segment(
     t: Table,
+    m: &mut [u64; rules::SUMMARY],
     store: &mut [u8],
     report: &mut [u8],
     association: u16,
     s: &[u8],
 ) -> Received
-    ensures { λ r. ⌜ DemandedSegment t (now (store .entry)) (now (report .entry)) association (now (s .entry)) r (now (store .exit)) (now (report .exit)) ⌝ }
+    ensures { λ r. ⌜ DemandedSegment t (now (m .entry)) (now (store .entry)) (now (report .entry)) association (now (s .entry)) r (now (m .exit)) (now (store .exit)) (now (report .exit)) ⌝ }
 {
-    receiver::segment(t, store, report, association, s)
+    receiver::segment(t, m, store, report, association, s)
 }
 
 pub fn delivery<'a>(decision: Decision, s: &'a [u8], store: &'a [u8]) -> &'a [u8]
@@ -49,16 +50,21 @@ pub fn delivery<'a>(decision: Decision, s: &'a [u8], store: &'a [u8]) -> &'a [u8
     receiver::delivery(decision, s, store)
 }
 
-pub fn clock(t: Table, report: &mut [u8], time: u32) -> Swept
-    ensures { λ r. ⌜ DemandedClock t (now (report .entry)) time r (now (report .exit)) ⌝ }
+pub fn clock(t: Table, m: &mut [u64; rules::SUMMARY], report: &mut [u8], time: u32) -> Swept
+    ensures { λ r. ⌜ DemandedClock t (now (m .entry)) (now (report .entry)) time r (now (m .exit)) (now (report .exit)) ⌝ }
 {
-    receiver::clock(t, report, time)
+    receiver::clock(t, m, report, time)
 }
 
-pub fn release(t: Table, report: &mut [u8], association: u16) -> Swept
-    ensures { λ r. ⌜ DemandedRelease t (now (report .entry)) association r (now (report .exit)) ⌝ }
+pub fn release(
+    t: Table,
+    m: &mut [u64; rules::SUMMARY],
+    report: &mut [u8],
+    association: u16,
+) -> Swept
+    ensures { λ r. ⌜ DemandedRelease t (now (m .entry)) (now (report .entry)) association r (now (m .exit)) (now (report .exit)) ⌝ }
 {
-    receiver::release(t, report, association)
+    receiver::release(t, m, report, association)
 }
 
 pub fn sending(
@@ -76,38 +82,44 @@ pub fn sending(
 
 // THE CALLS FOR C
 
-pub fn c_opening(registry: &[u8], timer: u32, clock: u32) -> Opened
-    ensures { λ r. ⌜ DemandedOpening (now (registry .entry)) timer clock r ⌝ }
+pub fn c_opening(m: &mut [u64; rules::SUMMARY], registry: &[u8], timer: u32, clock: u32) -> Opened
+    ensures { λ r. ⌜ DemandedOpening (now (registry .entry)) timer clock r (now (m .exit)) ⌝ }
 {
-    host::egrynnol_1_opening(registry, timer, clock)
+    host::egrynnol_2_opening(m, registry, timer, clock)
 }
 
 // A segment, and the delivery asked for with its answer.
 pub fn c_segment(
     t: Table,
+    m: &mut [u64; rules::SUMMARY],
     store: &mut [u8],
     report: &mut [u8],
     association: u16,
     s: &[u8],
 ) -> Handed
-    ensures { λ r. ⌜ DemandedC t (now (store .entry)) (now (report .entry)) association (now (s .entry)) r (now (store .exit)) (now (report .exit)) ⌝ }
+    ensures { λ r. ⌜ DemandedC t (now (m .entry)) (now (store .entry)) (now (report .entry)) association (now (s .entry)) r (now (m .exit)) (now (store .exit)) (now (report .exit)) ⌝ }
 {
-    let received = host::egrynnol_1_segment(t, store, report, association, s);
+    let received = host::egrynnol_2_segment(t, m, store, report, association, s);
     let decision = received.decision;
-    let part = host::egrynnol_1_delivery(decision, s, store);
+    let part = host::egrynnol_2_delivery(decision, s, store);
     Handed { received, part }
 }
 
-pub fn c_clock(t: Table, report: &mut [u8], time: u32) -> Swept
-    ensures { λ r. ⌜ DemandedClock t (now (report .entry)) time r (now (report .exit)) ⌝ }
+pub fn c_clock(t: Table, m: &mut [u64; rules::SUMMARY], report: &mut [u8], time: u32) -> Swept
+    ensures { λ r. ⌜ DemandedClock t (now (m .entry)) (now (report .entry)) time r (now (m .exit)) (now (report .exit)) ⌝ }
 {
-    host::egrynnol_1_clock(t, report, time)
+    host::egrynnol_2_clock(t, m, report, time)
 }
 
-pub fn c_release(t: Table, report: &mut [u8], association: u16) -> Swept
-    ensures { λ r. ⌜ DemandedRelease t (now (report .entry)) association r (now (report .exit)) ⌝ }
+pub fn c_release(
+    t: Table,
+    m: &mut [u64; rules::SUMMARY],
+    report: &mut [u8],
+    association: u16,
+) -> Swept
+    ensures { λ r. ⌜ DemandedRelease t (now (m .entry)) (now (report .entry)) association r (now (m .exit)) (now (report .exit)) ⌝ }
 {
-    host::egrynnol_1_release(t, report, association)
+    host::egrynnol_2_release(t, m, report, association)
 }
 
 pub fn c_sending(
@@ -120,21 +132,22 @@ pub fn c_sending(
 ) -> Sent
     ensures { λ r. ⌜ DemandedSending t q (now (origin .entry)) (now (destination .entry)) (now (whole .entry)) (now (area .entry)) r (now (area .exit)) ⌝ }
 {
-    host::egrynnol_1_sending(t, q, origin, destination, whole, area)
+    host::egrynnol_2_sending(t, q, origin, destination, whole, area)
 }
 
 // THEY COMPOSE: what one leaves is what the next asks for, and nothing is asked of the history.
 pub fn opened_then_clock(
+    m: &mut [u64; rules::SUMMARY],
     registry: &[u8],
     timer: u32,
     clock: u32,
     report: &mut [u8],
     time: u32,
 ) -> Both
-    ensures { λ r. ⌜ OfBoth (now (registry .entry)) timer clock (now (report .entry)) time r (now (report .exit)) ⌝ }
+    ensures { λ r. ⌜ OfBoth (now (registry .entry)) timer clock (now (report .entry)) time r (now (m .exit)) (now (report .exit)) ⌝ }
 {
-    let opened = c_opening(registry, timer, clock);
+    let opened = c_opening(m, registry, timer, clock);
     let t = opened.table;
-    let swept = c_clock(t, report, time);
+    let swept = c_clock(t, m, report, time);
     Both { opened, swept }
 }

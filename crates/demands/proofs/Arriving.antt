@@ -17,7 +17,8 @@ use Rattle.rules.specs.Layout.{isUnsegmented, fieldsOf, readingChecks}
 use Rattle.rules.specs.Records.{recordLength, zeroFilled, recordOctets, recordsOctets}
 use Rattle.rules.specs.Places.{noPlace, holds, placeOf, lowestFree, isAt, placeAt}
 use Rattle.rules.specs.Soundness.{sound}
-use Rattle.rules.specs.Receiving.{keyOf, lineOf, lineAt, isStart, effectOf, saveAt, receptionOf, receivedAt, Reception, segmentChecks, segment}
+use Rattle.rules.specs.Receiving.{keyOf, lineOf, lineAt, isStart, effectOf, saveAt, receptionOf, receivedAt, Reception, lentChecks, segmentChecks}
+use Rattle.rules.specs.Summary.{summarySound, summaryChecks, rowChecks, totalChecks, segmentSums, segmentChecksWith, segmentWith}
 use Rattle.rules.specs.Delivery.{partOfPlace}
 use Rattle.rules.specs.declared.Key.{Key}
 use Rattle.rules.specs.declared.Place.{Place}
@@ -33,7 +34,7 @@ use Rattle.rules.proofs.Places.{IsFirst}
 use Rattle.rules.proofs.Refusals.{accepted-append}
 use Rattle.rules.proofs.Records.{record-length}
 use Rattle.rules.proofs.ReadBack.{ReadsBack}
-use Rattle.demands.proofs.Spared.{Kept, lentChecks, segment-is}
+use Rattle.demands.proofs.Spared.{Kept, segment-is}
 
 -- Which line
 
@@ -92,22 +93,32 @@ module _ (t : Table) (store report : List ℕ) (association : ℕ) (s : List ℕ
       → accepted (segmentChecks t store report association s) ≡ true
   unfolding segmentChecks
   accepts e =
-      let front : List Check = lentChecks t store report in
+      let front : List Check = lentChecks (sound t) (length store) (length report) in
       let one : accepted front ≡ true = rw (good, le-ltb (length store) storeLeast long, le-ltb (length report) recordLength ample) in
       let two : accepted (front ++ readingChecks (t .registry) s) ≡ true = accepted-append front (readingChecks (t .registry) s) ∙ rw (one, read .accepted) in
       let same : at (keyOf association s (fieldsOf (t .registry) s)) (fieldsOf (t .registry) s .heading) (drop (fieldsOf (t .registry) s .information) s)
       ≡ at (keyFor association g o) g info = λ i. at (key-is i) (read .heading i) (read .information i) in
       accepted-append (front ++ readingChecks (t .registry) s) _ ∙ rw (two, same, e)
 
-  pub arrives : (place free : Found) → placeOf (keyFor association g o) (t .places) ≡ place → lowestFree (t .places) ≡ free → (l : Line)
-      → lineOf (isAt place) (placeAt (t .places) place .remaining .0) (placeAt (t .places) place .octets) g (length info) ≡ l → (isStart l && not (isAt free)) ≡ false
-      → segment t store report association s
-      ≡ receptionOf t report (effectOf l t store (keyFor association g o) fields info place (placeAt (t .places) place) free)
-  arrives place free there open-is l line starts =
-      let by : Found → Line = λ f. lineOf (isAt f) (placeAt (t .places) f .remaining .0) (placeAt (t .places) f .octets) g (length info) in
-      let same : at (keyFor association g o) g info ≡ l = ap by there ∙ line in
-      segment-is t store report association s (accepts (rw (same, open-is) starts)) ∙ received-is
-      ∙ (λ i. receptionOf t report (effectOf (same i) t store (keyFor association g o) fields info (there i) (placeAt (t .places) (there i)) (open-is i)))
+  -- neither the summary's soundness nor its room refuses it
+  module _ (m : List ℕ) (sums : summarySound m (t .places) ≡ true)
+      (counts : accepted (rowChecks m association ++ totalChecks m (segmentSums t m store report association s)) ≡ true) where
+    accepts-with : accepted (segmentChecks t store report association s) ≡ true → accepted (segmentChecksWith t m store report association s) ≡ true
+    unfolding segmentChecksWith
+    accepts-with e =
+        let last : List Check = rowChecks m association ++ totalChecks m (segmentSums t m store report association s) in
+        accepted-append (summaryChecks m (t .places)) (segmentChecks t store report association s ++ last)
+        ∙ rw (sums, accepted-append (segmentChecks t store report association s) last, e) counts
+
+    pub arrives : (place free : Found) → placeOf (keyFor association g o) (t .places) ≡ place → lowestFree (t .places) ≡ free → (l : Line)
+        → lineOf (isAt place) (placeAt (t .places) place .remaining .0) (placeAt (t .places) place .octets) g (length info) ≡ l → (isStart l && not (isAt free)) ≡ false
+        → segmentWith t m store report association s .call
+        ≡ receptionOf t report (effectOf l t store (keyFor association g o) fields info place (placeAt (t .places) place) free)
+    arrives place free there open-is l line starts =
+        let by : Found → Line = λ f. lineOf (isAt f) (placeAt (t .places) f .remaining .0) (placeAt (t .places) f .octets) g (length info) in
+        let same : at (keyFor association g o) g info ≡ l = ap by there ∙ line in
+        segment-is t m store report association s (accepts-with (accepts (rw (same, open-is) starts))) ∙ received-is
+        ∙ (λ i. receptionOf t report (effectOf (same i) t store (keyFor association g o) fields info (there i) (placeAt (t .places) (there i)) (open-is i)))
 
 -- Its own place after it, and what is saved there
 

@@ -4,13 +4,14 @@ use mathlib.Core.Bool.{true, false}
 use borrow.Author.Tests.{eqb-true}
 use Rattle.rules.specs.Soundness.{sound}
 use Rattle.rules.specs.Calls.{State, Call, Opens, Opening, step}
-use Rattle.demands.specs.Machine.{ours, isOpening, InRange}
+use Rattle.demands.specs.Machine.{ours, isOpening, InRange, SoundSummary}
 use Rattle.demands.specs.Seen.{seenBy}
 use Rattle.demands.specs.History.{Told, deedsOf, after}
 use Rattle.demands.specs.Exactly.{ByRules}
 use Rattle.demands.specs.Demanded.{Matches, Met, Demanded, Begun}
 use Rattle.demands.proofs.Refused.{number, zero-accepted, demand-1}
 use Rattle.demands.proofs.Sound.{opened, kept, passes-1, opening-over-1, leaves-sound}
+use Rattle.demands.proofs.Counted.{summary-emptied, summary-kept}
 use Rattle.demands.proofs.Running.{still-opened}
 use Rattle.demands.proofs.Kept.{Inv, open-done, call-done, inv-opened, inv-call}
 use Rattle.demands.proofs.Timing.{Timely, timely-call, timed-call, timing-opened, opened-timed}
@@ -18,8 +19,8 @@ use Rattle.demands.proofs.Releasing.{released-call, opened-released}
 use Rattle.demands.proofs.Return.{carries-all}
 
 -- a state and a history that match, as the invariants have it
-matched : (st : State) (h : Told) → Inv st h → Timely h → (h .opened ≡ true → sound (st .table) ≡ true) → Matches st h
-matched st h inv t good = record { typed = inv .typed; agrees = inv .agrees; time = t .time; early = t .early; good = good }
+matched : (st : State) (h : Told) → Inv st h → Timely h → (h .opened ≡ true → sound (st .table) ≡ true) → SoundSummary st → Matches st h
+matched st h inv t good m = record { typed = inv .typed; agrees = inv .agrees; time = t .time; early = t .early; good = good; summary = m }
 
 by-rules : (st : State) (c : Call) → ByRules (seenBy ours st c)
 by-rules st c = record { answer = refl; state = refl; handed = refl }
@@ -33,10 +34,10 @@ met st h m c r o =
       accounted = done;
       timed = timed-call st h inv t c r o (done .ruled);
       released = released-call st h inv c o (done .ruled);
-      not1 = λ e z. passes-1 st c o (m .good e) (sym (number st c) ∙ z);
+      not1 = λ e z. passes-1 st c o (m .good e) (m .summary .sound) (sym (number st c) ∙ z);
       on =
           matched (step st c .state) (after h (seenBy ours st c)) (inv-call st h inv c r o) (timely-call st h inv t c r o)
-          (λ e. kept st c o (m .good (sym (still-opened h (seenBy ours st c) o) ∙ e)));
+          (λ e. kept st c o (m .good (sym (still-opened h (seenBy ours st c) o) ∙ e))) (summary-kept st c o r (m .summary));
     }
 
 pub met-opened : (st : State) (h : Told) (x : Opening) → InRange (Opens x) → Met h (seenBy ours st (Opens x))
@@ -49,7 +50,7 @@ met-opened st h x r =
       not1 = λ e. opening-over-1 st x;
       on =
           matched (step st (Opens x) .state) (after h (seenBy ours st (Opens x))) (inv-opened st h x) (timing-opened st h x r)
-          (λ e. opened st x (zero-accepted st (Opens x) (eqb-true (step st (Opens x) .answer .refusal) 0 e)));
+          (λ e. opened st x (zero-accepted st (Opens x) (eqb-true (step st (Opens x) .answer .refusal) 0 e))) (summary-emptied st x);
     }
 
 pub demanded : (st : State) (c : Call) → InRange c → isOpening c ≡ false → Demanded (seenBy ours st c)

@@ -16,6 +16,7 @@ use Rattle.demands.specs.Soundness.{Sound}
 use Rattle.demands.specs.Exactly.{Octets, Exactly}
 use Rattle.demands.specs.Follows.{Orderly, Billed, Unforgetting}
 use Rattle.demands.specs.Demanded.{Demanded, Begun}
+use Rattle.demands.specs.Totals.{Totals, Balance}
 use Rattle.demands.specs.Replayed.{Replayed}
 use Rattle.demands.proofs.Refused as Refused
 use Rattle.demands.proofs.Sound as Sound
@@ -24,6 +25,8 @@ use Rattle.demands.proofs.Kept as Kept
 use Rattle.demands.proofs.Timing as Timing
 use Rattle.demands.proofs.Releasing as Releasing
 use Rattle.demands.proofs.Follows as Follows
+use Rattle.demands.proofs.Totalling as Totalling
+use Rattle.demands.proofs.Balancing as Balancing
 use Rattle.demands.proofs.Demanded as One
 use Rattle.demands.proofs.Replayed as Replay
 
@@ -50,6 +53,13 @@ timer = Timing.timer
 -- release: what is uncovered of an association is lost with cause 7 exactly at its release
 pub releasing : Release ours
 releasing = Releasing.releasing
+
+-- totals: the summary's 512 numbers are what the history gives; balance: taken is delivered, lost and held
+pub totals : Totals ours
+totals = Totalling.totals
+
+pub balance : Balance ours
+balance = Balancing.balance
 
 -- exactly: whatever else there is to see is the rules'
 pub exactly : Exactly ours

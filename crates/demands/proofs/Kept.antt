@@ -14,9 +14,10 @@ use Rattle.rules.specs.Registry.{entriesOf}
 use Rattle.rules.specs.Layout.{isUnsegmented, fieldsOf, readingChecks}
 use Rattle.rules.specs.Places.{sameKey, isOpen, noPlace, holds, placeOf, placeAt, lowestFree}
 use Rattle.rules.specs.Soundness.{placeSound, openSound, sound}
-use Rattle.rules.specs.Receiving.{keyOf, informationOf, lineOf, lineAt, Effect, effectOf, receptionOf, segmentChecks, segment}
+use Rattle.rules.specs.Receiving.{keyOf, informationOf, lineOf, lineAt, Effect, effectOf, receptionOf}
 use Rattle.rules.specs.Delivery.{delivery}
-use Rattle.rules.specs.Sweep.{reportLeast, sweep, isDue, isOf, clockChecks, clock, releaseChecks, release, lossesBy}
+use Rattle.rules.specs.Sweep.{reportLeast, sweep, isDue, isOf, lossesBy}
+use Rattle.rules.specs.Summary.{counting, segmentWith, clockWith, clockChecksWith, releaseWith, releaseChecksWith, emptySummary}
 use Rattle.rules.specs.Opening.{emptyTable, unopened, openingChecks, opening}
 use Rattle.rules.specs.Calls.{State, stateOf, Call, Opens, Arrives, Ticks, Releases, Sends, Opening, Arrival, Tick, Release, Dispatch, Answer, Outcome, afterOpening, afterSegment, afterSweep, step}
 use Rattle.rules.specs.declared.Entry.{Entry}
@@ -33,13 +34,14 @@ use Rattle.rules.proofs.Records.{records-back}
 use Rattle.rules.proofs.Held.{every-at, open-is, places-sound}
 use Rattle.rules.proofs.Reading.{parameter-short}
 use Rattle.rules.proofs.Arrived.{arrived as arrived-good}
+use Rattle.rules.proofs.Answers.{segment-accepted, clock-accepted, release-accepted}
 use Rattle.demands.specs.Machine.{ours, checksOf, isOpening, parameterOf, InRange, Typed}
 use Rattle.demands.specs.Seen.{Seen, seenOf, handing, seenBy}
 use Rattle.demands.specs.Demand1.{refusedState}
 use Rattle.demands.specs.History.{Segment, Told, Deed, Passes, Ends, joined, isNone, remainingOf, coversOf, coverOf, recordsIn, recordsOf, recordsBy, settled, deedsOf, counted, beginning, did, after, covers, EachIn}
 use Rattle.demands.specs.Demand3.{Ruled, held, owing, Agrees, Accounted, Demand3}
 use Rattle.demands.proofs.Holding.{none-held, owing-none}
-use Rattle.demands.proofs.Settling.{Arrived, segmentWith, line-told, segment-done}
+use Rattle.demands.proofs.Settling.{Arrived, segmentFrom, line-told, segment-done}
 use Rattle.demands.proofs.Sweeping.{sweep-places, losses-lost}
 use Rattle.demands.proofs.Accepting.{alone-reference, key-fits, vacant-left, clock-good, release-good}
 use Rattle.demands.proofs.Refused.{refusedOutcome, step-refused, refused-number, refused-hands}
@@ -132,7 +134,7 @@ module _ (st : State) (h : Told) (inv : Inv st h) where
     keyBy registry = keyOf (x .association) s (fieldsOf registry s)
 
     abbrev segmentBy : List Entry → ℕ → Segment
-    segmentBy registry time = segmentWith (fieldsOf registry s) (informationOf s (fieldsOf registry s)) time (h .number + 1) (h .ticks)
+    segmentBy registry time = segmentFrom (fieldsOf registry s) (informationOf s (fieldsOf registry s)) time (h .number + 1) (h .ticks)
 
     abbrev lineBy : List Entry → Line
     lineBy registry =
@@ -142,9 +144,9 @@ module _ (st : State) (h : Told) (inv : Inv st h) where
     abbrev Good : List Entry → ℕ → Effect → Type 0
     Good registry time e = (accepted (readingChecks registry s) ≡ true) × Arrived u (keyBy registry) (segmentBy registry time) s (lineBy registry) e
 
-    arrive-done : (e : Effect) → 32 ≤ length (x .report) → Good (h .registry) (h .time) e → Accounted h (seenWith st (Arrives x) (afterSegment (receptionOf t (x .report) e)))
+    arrive-done : (m′ : List ℕ) (e : Effect) → 32 ≤ length (x .report) → Good (h .registry) (h .time) e → Accounted h (seenWith st (Arrives x) (afterSegment (counting m′ (receptionOf t (x .report) e))))
     unfolding after covers EachIn deedsOf held
-    arrive-done e w g =
+    arrive-done m′ e w g =
         let d = g .1 in
         let o = d .one in
         let back = records-back (e .records) (x .report) (d .fits) (omega arith) in
@@ -157,32 +159,42 @@ module _ (st : State) (h : Told) (inv : Inv st h) where
           unmoved = λ y z. absurd (y refl);
         }
 
+    -- what an accepted one does
+    abbrev pub effect : Effect
+    effect =
+        let f : Fields = fieldsOf (t .registry) s in
+        let k : Key = keyBy (t .registry) in
+        let place : Found = placeOf k (t .places) in
+        effectOf (lineAt t k (f .heading) (length (informationOf s f))) t store k f (informationOf s f) place (placeAt (t .places) place) (lowestFree (t .places))
+
+    pub arrival-good : x .association < 2 ^ 16 → accepted (checksOf st (Arrives x)) ≡ true → (32 ≤ length (x .report)) × Good (h .registry) (h .time) effect
+    unfolding held
+    arrival-good small e =
+        let c = arrived-good t store (x .report) (x .association) s (segment-accepted t (st .summary) store (x .report) (x .association) s e .0 .own) in
+        let f : Fields = fieldsOf (t .registry) s in
+        let k : Key = keyBy (t .registry) in
+        let exact = inv .agrees .exact in
+        let alone : (isUnsegmented (f .heading .new) (f .heading .remaining .0) ≡ true → u k ≡ []) =
+        (λ a. owing-none (u k) (sym (exact k) ∙ none-held store k 0 (t .places) (not-held t k (c .table) (alone-reference (t .registry) s (c .reading) a)))) in
+        let short = parameter-short (t .registry) s (c .reading) in
+        let fit = key-fits (t .registry) s (c .reading) (x .association) small in
+        let d = segment-done t store s f k u exact (h .number + 1) (h .ticks) (c .table) (inv .typed .count) (c .stores) short fit alone (vacant-left _ _ (c .vacant)) in
+        let told = line-told t store s f k u exact (h .number + 1) (h .ticks) (c .table) (inv .typed .count) (c .stores) short fit in
+        (c .reports, subst (λ (r : List Entry). Good r (h .time) effect) (inv .agrees .registry) (subst (λ (n : ℕ). Good (t .registry) n effect) (inv .agrees .clock) (c .reading, rw (← told) d)))
+
     arrives-done : x .association < 2 ^ 16 → Accounted h (seenBy ours st (Arrives x))
-    unfolding step segment held
-    arrives-done small = go (accepted (segmentChecks t store (x .report) (x .association) s)) refl
+    unfolding step segmentWith
+    arrives-done small = go (accepted (checksOf st (Arrives x))) refl
       where
-        go : (b : Bool) → accepted (segmentChecks t store (x .report) (x .association) s) ≡ b → Accounted h (seenBy ours st (Arrives x))
-        go true e =
-            let c = arrived-good t store (x .report) (x .association) s e in
-            let f : Fields = fieldsOf (t .registry) s in
-            let k : Key = keyBy (t .registry) in
-            let exact = inv .agrees .exact in
-            let alone : (isUnsegmented (f .heading .new) (f .heading .remaining .0) ≡ true → u k ≡ []) =
-            (λ a. owing-none (u k) (sym (exact k) ∙ none-held store k 0 (t .places) (not-held t k (c .table) (alone-reference (t .registry) s (c .reading) a)))) in
-            let short = parameter-short (t .registry) s (c .reading) in
-            let fit = key-fits (t .registry) s (c .reading) (x .association) small in
-            let d = segment-done t store s f k u exact (h .number + 1) (h .ticks) (c .table) (inv .typed .count) (c .stores) short fit alone (vacant-left _ _ (c .vacant)) in
-            let told = line-told t store s f k u exact (h .number + 1) (h .ticks) (c .table) (inv .typed .count) (c .stores) short fit in
-            let place : Found = placeOf k (t .places) in
-            let effect : Effect = effectOf (lineAt t k (f .heading) (length (informationOf s f))) t store k f (informationOf s f) place (placeAt (t .places) place) (lowestFree (t .places)) in
-            rw e (arrive-done effect (c .reports) (rw (← inv .agrees .registry, ← inv .agrees .clock) (c .reading, rw (← told) d)))
+        go : (b : Bool) → accepted (checksOf st (Arrives x)) ≡ b → Accounted h (seenBy ours st (Arrives x))
+        go true e = let g = arrival-good small e in rw e (arrive-done _ effect (g .0) (g .1))
         go false e = refused-done (Arrives x) refl e
 
   -- a sweep
   module _ (test : Place → Bool) (opens : (p : Place) → test p ≡ true → isOpen p ≡ true) (cause : ℕ) (report : List ℕ) (good : sound t ≡ true)
-      (long : reportLeast ≤ length report) (time : ℕ) where
+      (long : reportLeast ≤ length report) (time : ℕ) (m′ : List ℕ) where
     abbrev outcome : Outcome
-    outcome = afterSweep store (sweep test cause time t report)
+    outcome = afterSweep store (counting m′ (sweep test cause time t report))
 
     abbrev made : List Record
     made = lossesBy test cause (t .places)
@@ -219,24 +231,24 @@ module _ (st : State) (h : Told) (inv : Inv st h) where
   of-open association p e = and-eq-true-iff (isOpen p) (eqb (p .key .association) association) .0 e .0
 
   ticks-done : (x : Tick) → Accounted h (seenBy ours st (Ticks x))
-  unfolding step clock sweep deedsOf
-  ticks-done x = go (accepted (clockChecks t (x .report) (x .time))) refl
+  unfolding step clockWith clockChecksWith sweep deedsOf
+  ticks-done x = go (accepted (checksOf st (Ticks x))) refl
     where
-      go : (b : Bool) → accepted (clockChecks t (x .report) (x .time)) ≡ b → Accounted h (seenBy ours st (Ticks x))
+      go : (b : Bool) → accepted (checksOf st (Ticks x)) ≡ b → Accounted h (seenBy ours st (Ticks x))
       go true e =
-          let c = clock-good t (x .report) (x .time) e in
-          rw e (sweep-done (isDue (x .time) (t .timer)) (due-open (x .time) (t .timer)) 6 (x .report) (c .0) (c .1) (x .time) (Ticks x) (Passes (x .time)) refl refl
+          let c = clock-good t (x .report) (x .time) (clock-accepted t (st .summary) (x .report) (x .time) e .own) in
+          rw e (sweep-done (isDue (x .time) (t .timer)) (due-open (x .time) (t .timer)) 6 (x .report) (c .0) (c .1) (x .time) _ (Ticks x) (Passes (x .time)) refl refl
           (losses-lost (isDue (x .time) (t .timer)) 6 (t .places)) refl refl refl refl refl)
       go false e = refused-done (Ticks x) refl e
 
   releases-done : (x : Release) → Accounted h (seenBy ours st (Releases x))
-  unfolding step release sweep deedsOf
-  releases-done x = go (accepted (releaseChecks t (x .report))) refl
+  unfolding step releaseWith releaseChecksWith sweep deedsOf
+  releases-done x = go (accepted (checksOf st (Releases x))) refl
     where
-      go : (b : Bool) → accepted (releaseChecks t (x .report)) ≡ b → Accounted h (seenBy ours st (Releases x))
+      go : (b : Bool) → accepted (checksOf st (Releases x)) ≡ b → Accounted h (seenBy ours st (Releases x))
       go true e =
-          let c = release-good t (x .report) e in
-          rw e (sweep-done (isOf (x .association)) (of-open (x .association)) 7 (x .report) (c .0) (c .1) (t .clock) (Releases x) (Ends (x .association)) refl refl
+          let c = release-good t (x .report) (release-accepted t (st .summary) (x .report) (x .association) e .own) in
+          rw e (sweep-done (isOf (x .association)) (of-open (x .association)) 7 (x .report) (c .0) (c .1) (t .clock) _ (Releases x) (Ends (x .association)) refl refl
           (losses-lost (isOf (x .association)) 7 (t .places)) refl refl refl refl (sym (inv .agrees .clock)))
       go false e = refused-done (Releases x) refl e
 
@@ -261,7 +273,7 @@ opened-zero : (st : State) (x : Opening) (b : Bool) → accepted (openingChecks 
 opened-zero st x true e = refl
 opened-zero st x false e = ne-eqb (first (openingChecks (x .registry) (x .timer))) 0 (refused-number st (Opens x) e)
 
-opened-agrees : (store : List ℕ) (n : ℕ) (x : Opening) (b : Bool) → Agrees (stateOf (openedBy x b .table) store) (beginning n x b)
+opened-agrees : (store : List ℕ) (n : ℕ) (x : Opening) (b : Bool) → Agrees (stateOf (openedBy x b .table) emptySummary store) (beginning n x b)
 unfolding held
 opened-agrees store n x true = record { exact = λ k. refl; registry = refl; timer = refl; clock = refl }
 opened-agrees store n x false = record { exact = λ k. refl; registry = refl; timer = refl; clock = refl }

@@ -2,6 +2,7 @@ pub mod Index
 pub mod Running
 pub mod Typed
 pub mod Refused
+pub mod Counted
 pub mod Sound
 pub mod Spared
 pub mod Sparing
@@ -19,4 +20,9 @@ pub mod Releasing
 pub mod Follows
 pub mod Demanded
 pub mod Replayed
+pub mod Columns
+pub mod Rowed
+pub mod Doing
+pub mod Totalling
+pub mod Balancing
 pub mod Rejected

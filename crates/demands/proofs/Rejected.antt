@@ -14,17 +14,18 @@ use Rattle.rules.specs.Layout.{fieldsOf, readingChecks, parameterOctets}
 use Rattle.rules.specs.Records.{recordOctets, recordFrom, recordLength}
 use Rattle.rules.specs.Places.{sameKey, isFree, placeOf, lowestFree, freePlace}
 use Rattle.rules.specs.Soundness.{openSound, freeSound, sound}
-use Rattle.rules.specs.Receiving.{lineOf, effectOf, segmentChecks, segment}
-use Rattle.rules.specs.Sweep.{sweep, isDue, clockChecks, clock, releaseChecks, release, reportLeast}
+use Rattle.rules.specs.Receiving.{lineOf, effectOf, segmentChecks}
+use Rattle.rules.specs.Sweep.{sweep, isDue, clockChecks, releaseChecks, reportLeast}
+use Rattle.rules.specs.Summary.{summaryLength, rowCount, totalCount, summarySound, fits, segmentSums, segmentChecksWith, segmentWith, clockChecksWith, clockWith, releaseChecksWith, releaseWith, emptySummary}
 use Rattle.rules.specs.Delivery.{delivery}
 use Rattle.rules.specs.Opening.{noEntry, opening}
 use Rattle.rules.specs.Sending.{segmentOctets, sendingChecks, sending}
 use Rattle.rules.specs.Examples.{fresh}
-use Rattle.rules.specs.Calls.{State, stateOf, Opening, Call, Opens, Arrives, Ticks, Releases, Sends, toArrive, toTick, toRelease, As, Answer, Outcome, step}
+use Rattle.rules.specs.Calls.{State, stateOf, Opening, Call, Opens, Arrives, Ticks, Releases, Sends, toArrive, toTick, toRelease, Decided, Undecided, As, Answer, Outcome, step}
 use Rattle.rules.specs.declared.Entry.{Entry}
 use Rattle.rules.specs.declared.Key.{Key}
 use Rattle.rules.specs.declared.Part.the-variants.{OfStore}
-use Rattle.rules.specs.declared.Decision.the-variants.{Saved, Delivered}
+use Rattle.rules.specs.declared.Decision.the-variants.{Refused, Saved, Delivered, Lost}
 use Rattle.demands.specs.Machine.{Machine, checksOf, All, InRange, TypedPlace}
 use Rattle.demands.specs.Seen.{Seen, seenBy, runOf}
 use Rattle.demands.specs.History.{Told, deedsOf, after, covers, EachIn, silence, Along, Meets}
@@ -33,14 +34,16 @@ use Rattle.demands.specs.Demand2.{Demand2, Shipment, Sender, sendingOf, 
 use Rattle.demands.specs.Demand3.{Demand3, Ending, View, held}
 use Rattle.demands.specs.Timer.{Timer}
 use Rattle.demands.specs.Release.{Release}
+use Rattle.demands.specs.Totals.{totalsOf, Totals}
 use Rattle.demands.specs.Exactly.{Exactly, Bits, OfPlace, OfEntry, OfState, OfCall}
 use Rattle.demands.specs.Wrong
-use Rattle.demands.specs.Wrong.{joining, unchanged, sweeping, emptying, asRuled}
+use Rattle.demands.specs.Wrong.{joining, unchanged, sweeping, emptying, asRuled, asSummed}
 use Rattle.demands.specs.Wrong.{refuses, losesAll, forgets, savesFirst, invents, inventsOctets, neverRefuses, swallows, handsOutEarly, handsOutMore}
 use Rattle.demands.specs.Wrong.{losesNothing, releasesNothing, recordsSending, clearsRegistry, movesTimer, movesClock}
 use Rattle.demands.specs.Wrong.{leavesOut, setsSpare, cutsPast, cutsByClock, writesNonsense}
 use Rattle.demands.specs.Wrong.{comparesNumbers, comparesFilled, takesHighest, losesEmpty, joinsOverGap, exchangesCauses, callsItDelivered}
 use Rattle.demands.specs.Wrong.{dropsRestart, countsSaved, tellsLast, startsAnew, subtractsPlainly}
+use Rattle.demands.specs.Wrong.{countsRefused, billsRestart, forgetsReleases, keepsRows, givesSecond, takesParameter, missesStrays}
 
 -- THE FRAMES of the errors, with nothing changed, are ours: so each machine differs by its error alone
 either : (b : Bool) {o o′ : Outcome} → (b ≡ true → o′ ≡ o) → (if b then o′ else o) ≡ o
@@ -51,7 +54,7 @@ as-ours : (st : State) (c : Call) {o : Outcome} → (accepted (checksOf st c) �
 as-ours st c h = either (accepted (checksOf st c)) h
 
 pub joining-ours : (st : State) (c : Call) → joining placeOf lowestFree lineOf unchanged .step st c ≡ step st c
-unfolding step segment
+unfolding step segmentWith
 joining-ours st (Opens x) = as-ours st (Opens x) (λ e. refl)
 joining-ours st (Arrives x) = as-ours st (Arrives x) (λ e. simp e)
 joining-ours st (Ticks x) = as-ours st (Ticks x) (λ e. refl)
@@ -59,7 +62,7 @@ joining-ours st (Releases x) = as-ours st (Releases x) (λ e. refl)
 joining-ours st (Sends x) = as-ours st (Sends x) (λ e. refl)
 
 pub sweeping-ours : (st : State) (c : Call) → sweeping isDue .step st c ≡ step st c
-unfolding step clock
+unfolding step clockWith clockChecksWith
 sweeping-ours st (Opens x) = as-ours st (Opens x) (λ e. refl)
 sweeping-ours st (Arrives x) = as-ours st (Arrives x) (λ e. refl)
 sweeping-ours st (Ticks x) = as-ours st (Ticks x) (λ e. simp e)
@@ -81,12 +84,15 @@ emptying-ours st (Ticks x) = as-ours st (Ticks x) (λ e. refl)
 emptying-ours st (Releases x) = as-ours st (Releases x) (λ e. either (every isFree (step st (Releases x) .state .table .places)) (λ e′. refl))
 emptying-ours st (Sends x) = as-ours st (Sends x) (λ e. refl)
 
+pub summing-ours : (st : State) (c : Call) → Wrong.summing asSummed .step st c ≡ step st c
+summing-ours st c = refl
+
 -- THE TRACES
 abbrev registry : List ℕ
 registry = 1 ∷ 0 ∷ 3 ∷ 2 ∷ 0 ∷ 4 ∷ []
 
 abbrev before : State
-before = stateOf fresh (replicate storeLeast 0)
+before = stateOf fresh emptySummary (replicate storeLeast 0)
 
 abbrev openingAt : ℕ → Opening
 openingAt time = record { registry = registry; timer = 100; time = time }
@@ -175,11 +181,15 @@ arriving d l = calling d (arrivals l) (in-range l)
 
 -- what a trace computes with, to be named on an `unfolding` line: the rules of the calls, and what is told of them
 ruling : Unit {0}
-unfolding opening segmentChecks segment clockChecks clock releaseChecks release sweep sendingChecks sending segmentOctets parameterOctets delivery step
+unfolding opening segmentChecks segmentChecksWith segmentSums segmentWith clockChecks clockChecksWith clockWith releaseChecks releaseChecksWith releaseWith sweep sendingChecks sending segmentOctets parameterOctets delivery step
 ruling = tt
 
+summing : Unit {0}
+unfolding rowCount totalCount emptySummary summarySound fits
+summing = tt
+
 computing : Unit {0}
-unfolding ruling sound openSound freeSound readingChecks fieldsOf sameKey lineOf effectOf elapsed splice recordOctets recordFrom deedsOf after covers EachIn held
+unfolding ruling summing sound openSound freeSound readingChecks fieldsOf sameKey lineOf effectOf elapsed splice recordOctets recordFrom deedsOf after covers EachIn held
 computing = tt
 
 -- an octet of a list and of the area that was sent to, and a number of a list's first element
@@ -225,7 +235,7 @@ addressed = cut 4 2 7 (7 ∷ []) (1 ∷ [])
 
 -- from a table opened at a time, with an area of so many octets
 abbrev sender : ℕ → ℕ → Sender
-sender time n = record { state = stateOf (opening registry 100 time .table) []; area = replicate n 0 }
+sender time n = record { state = stateOf (opening registry 100 time .table) emptySummary []; area = replicate n 0 }
 
 two-sendable : (k : ℕ) → k < countIn two → Sendable two (sender 0 255) k
 unfolding computing
@@ -251,6 +261,7 @@ ready whole =
       typed = record { count = refl; each = all-replicate TypedPlace freePlace (record { address = refl; association = omega arith }) placeCount };
       kind = refl;
       store = omega (arith, length-replicate {A = ℕ} storeLeast 0);
+      summary = record { size = refl; sound = refl };
       carrier = omega arith;
     }
 
@@ -265,17 +276,17 @@ trip3 d = d .back three (λ k. sender 0 255) three-sendable before (ready (three
 -- the first of three is not accepted
 pub rejects-refuses : Demand2 refuses → ⊥
 unfolding computing
-rejects-refuses d = let z : _≡_ {A = ℕ} 1 0 = trip3 d .first refl refl .accepted in omega arith
+rejects-refuses d = let z : _≡_ {A = ℕ} 1 0 = trip3 d .first refl refl refl .accepted in omega arith
 
 -- the first of three is not saved
 pub rejects-losesAll : Demand2 losesAll → ⊥
 unfolding computing
-rejects-losesAll d = false≢true (trip3 d .first refl refl .saved)
+rejects-losesAll d = false≢true (trip3 d .first refl refl refl .saved)
 
 -- the second of three makes a record
 pub rejects-forgets : Demand2 forgets → ⊥
 unfolding computing
-rejects-forgets d = let z : _≡_ {A = ℕ} 1 0 = trip3 d .later refl refl 1 (omega arith) before stop one one-long .0 (omega arith) .records in omega arith
+rejects-forgets d = let z : _≡_ {A = ℕ} 1 0 = trip3 d .later refl refl refl 1 (omega arith) before stop one one-long refl .0 (omega arith) .records in omega arith
 
 -- nothing is held of the first of two
 pub rejects-forgets-3 : Demand3 forgets → ⊥
@@ -286,7 +297,7 @@ rejects-forgets-3 d = let z : _≡_ {A = ℕ} 0 1 = ap length (arriving d (m3 �
 pub rejects-savesFirst : Demand2 savesFirst → ⊥
 unfolding computing
 rejects-savesFirst d =
-    let z : _≡_ {A = ℕ} 0 2 = ap (nth 1) (trip3 d .later refl refl 2 (omega arith) _ (mine one one-long stop) one one-long .1 refl .handed) in
+    let z : _≡_ {A = ℕ} 0 2 = ap (nth 1) (trip3 d .later refl refl refl 2 (omega arith) _ (mine one one-long refl stop) one one-long refl .1 refl .handed) in
     omega arith
 
 -- with the last of two, the second octet comes back as 0
@@ -302,7 +313,7 @@ rejects-invents d = let z : _≡_ {A = ℕ} 2 1 = arriving d (alone ∷ []) .0 .
 -- an unsegmented parameter counts two segments, in octet 9 of its record
 pub rejects-invents-2 : Demand2 invents → ⊥
 unfolding computing
-rejects-invents-2 d = let z : _≡_ {A = ℕ} 2 1 = ap (nth 8) (trip2 d .alone refl .reported) in omega arith
+rejects-invents-2 d = let z : _≡_ {A = ℕ} 2 1 = ap (nth 8) (trip2 d .alone refl refl .reported) in omega arith
 
 -- an unsegmented parameter with one octet counts two
 pub rejects-inventsOctets : Demand3 inventsOctets → ⊥
@@ -312,7 +323,7 @@ rejects-inventsOctets d = let z : _≡_ {A = ℕ} 2 1 = arriving d (alone ∷ []
 -- an unsegmented parameter with two octets counts three, in octet 11 of its record
 pub rejects-inventsOctets-2 : Demand2 inventsOctets → ⊥
 unfolding computing
-rejects-inventsOctets-2 d = let z : _≡_ {A = ℕ} 3 2 = ap (nth 10) (trip2 d .alone refl .reported) in omega arith
+rejects-inventsOctets-2 d = let z : _≡_ {A = ℕ} 3 2 = ap (nth 10) (trip2 d .alone refl refl .reported) in omega arith
 
 -- M1, the empty parameter, is accepted where the rules refuse it with 5
 pub rejects-neverRefuses : Demand1 neverRefuses → ⊥
@@ -327,7 +338,7 @@ rejects-swallows d = let z : _≡_ {A = ℕ} 0 1 = ap length (arriving d (alone 
 -- an unsegmented parameter has no record
 pub rejects-swallows-2 : Demand2 swallows → ⊥
 unfolding computing
-rejects-swallows-2 d = let z : _≡_ {A = ℕ} 0 1 = trip2 d .alone refl .records in omega arith
+rejects-swallows-2 d = let z : _≡_ {A = ℕ} 0 1 = trip2 d .alone refl refl .records in omega arith
 
 -- the first of two hands over the place's 2,048 octets
 pub rejects-handsOutEarly : Demand3 handsOutEarly → ⊥
@@ -509,7 +520,7 @@ entry-typed : (context kind : ℕ) → Bits 16 context → Bits 8 kind → OfEnt
 entry-typed context kind a b = record { context = a; kind = b }
 
 before-typed : OfState before
-unfolding opening
+unfolding opening emptySummary
 before-typed =
     record {
       count = refl;
@@ -524,16 +535,65 @@ before-typed =
       );
       timer = omega arith;
       clock = omega arith;
+      size = refl;
+      summary = all-replicate (Bits 64) 0 (omega arith) summaryLength;
       store = all-replicate (Bits 8) 0 (omega arith) storeLeast;
     }
 
 m3-typed : OfCall (toArrive 9 m3 one)
 m3-typed = (omega arith, (omega arith, (omega arith, (omega arith, (omega arith, (omega arith, tt))))), all-replicate (Bits 8) 0 (omega arith) recordLength)
 
+-- the place that a segment was saved in
+abbrev savedIn : Decided → ℕ
+savedIn Undecided = 0
+savedIn (As Refused) = 0
+savedIn (As (Saved p)) = p
+savedIn (As (Delivered part)) = 0
+savedIn (As (Lost cause p)) = 0
+
 -- a first segment at a fresh table goes to place 15 and not to place 0
 pub rejects-takesHighest : Exactly takesHighest → ⊥
 unfolding computing
 rejects-takesHighest d =
-    let e : As (Saved 15) ≡ As (Saved 0) = ap (λ (a : Answer). a .decided) (d .every before (toArrive 9 m3 one) before-typed m3-typed .answer) in
-    let z : _≡_ {A = ℕ} 15 0 = cc in
+    let z : _≡_ {A = ℕ} 15 0 = ap (λ (a : Answer). savedIn (a .decided)) (d .every before (toArrive 9 m3 one) before-typed m3-typed .answer) in
     omega arith
+
+-- a number of the summary: row 0 has its mark at 0, taken at 128 and 192, delivered at 256 and 320, lost at 384 and 448
+-- M1, the empty parameter, is refused and taken
+pub rejects-countsRefused : Totals countsRefused → ⊥
+unfolding computing totalsOf
+rejects-countsRefused d = let z : _≡_ {A = ℕ} 1 0 = ap (nth 128) (arriving d ([] ∷ []) .0) in omega arith
+
+-- a first segment twice: one is lost, and two are billed
+pub rejects-billsRestart : Totals billsRestart → ⊥
+unfolding computing totalsOf
+rejects-billsRestart d = let z : _≡_ {A = ℕ} 2 1 = ap (nth 384) (arriving d (m3 ∷ m3 ∷ []) .1 .0) in omega arith
+
+-- a first segment, lost by a release and not billed
+pub rejects-forgetsReleases : Totals forgetsReleases → ⊥
+unfolding computing totalsOf
+rejects-forgetsReleases d =
+    let z : _≡_ {A = ℕ} 0 1 = ap (nth 384) (calling d (toArrive 9 m3 one ∷ toRelease 9 all ∷ []) (omega arith, (omega arith, tt)) .1 .0) in
+    omega arith
+
+-- an unsegmented parameter, and an opening that leaves its row used
+pub rejects-keepsRows : Totals keepsRows → ⊥
+unfolding computing totalsOf
+rejects-keepsRows d =
+    let z : _≡_ {A = ℕ} 1 0 = ap (nth 0) (calling d (toArrive 9 alone one ∷ Opens (openingAt 0) ∷ []) (omega arith, (omega arith, tt)) .1 .0) in
+    omega arith
+
+-- the second of three is taken in row 1
+pub rejects-givesSecond : Totals givesSecond → ⊥
+unfolding computing totalsOf
+rejects-givesSecond d = let z : _≡_ {A = ℕ} 1 0 = ap (nth 1) (arriving d (first3 ∷ second3 ∷ []) .1 .0) in omega arith
+
+-- an unsegmented parameter of four octets, one of them information: four are taken
+pub rejects-takesParameter : Totals takesParameter → ⊥
+unfolding computing totalsOf
+rejects-takesParameter d = let z : _≡_ {A = ℕ} 4 1 = ap (nth 192) (arriving d (alone ∷ []) .0) in omega arith
+
+-- a later segment with nothing open is not taken
+pub rejects-missesStrays : Totals missesStrays → ⊥
+unfolding computing totalsOf
+rejects-missesStrays d = let z : _≡_ {A = ℕ} 0 1 = ap (nth 128) (arriving d (m4 ∷ []) .0) in omega arith

@@ -9,7 +9,9 @@ use borrow.Author.Tests.{eq-eqb, eqb-true}
 use lib.Dec.{eqb}
 use lib.ListN.{length}
 use Rattle.rules.specs.Places.{sameKey, isOpen}
-use Rattle.rules.specs.Sweep.{isOf, release, lossesBy}
+use Rattle.rules.specs.Sweep.{isOf, lossesBy}
+use Rattle.rules.specs.Summary.{releaseWith, releaseChecksWith}
+use Rattle.rules.proofs.Answers.{release-accepted}
 use Rattle.rules.specs.Calls.{State, Call, Opens, Arrives, Ticks, Releases, Sends, Opening, step}
 use Rattle.rules.specs.Calls as calls
 use Rattle.rules.specs.declared.Key.{Key}
@@ -42,11 +44,11 @@ module _ (st : State) (h : Told) (inv : Inv st h) where
 
   module _ (x : calls.Release) (z : eqb (step st (Releases x) .answer .refusal) 0 ≡ true) where
     releases-records : recordsIn (step st (Releases x) .answer) ≡ lossesBy (isOf (x .association)) 7 (t .places)
-    unfolding step release
+    unfolding step releaseWith releaseChecksWith
     releases-records =
         let e = zero-accepted st (Releases x) (eqb-true _ 0 z) in
-        let c = release-good t (x .report) e in
-        rw e (made-back st h inv (isOf (x .association)) (of-open st h inv (x .association)) 7 (x .report) (c .0) (c .1) (t .clock))
+        let c = release-good t (x .report) (release-accepted t (st .summary) (x .report) (x .association) e .own) in
+        rw e (made-back st h inv (isOf (x .association)) (of-open st h inv (x .association)) 7 (x .report) (c .0) (c .1) (t .clock) (st .summary))
 
     released : (k : Key) → (lostBy 7 k (recordsIn (step st (Releases x) .answer)) ≡ true) ↔ ((k .association ≡ x .association) × (h .uncovered k ≡ [] → ⊥))
     unfolding held

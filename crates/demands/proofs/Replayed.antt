@@ -11,6 +11,7 @@ use Rattle.rules.specs.General.{if_then_else_}
 use Rattle.rules.specs.Numbers.{placeCount}
 use Rattle.rules.specs.Layout.{octet}
 use Rattle.rules.specs.Opening.{unopened}
+use Rattle.rules.specs.Summary.{emptySummary}
 use Rattle.rules.specs.Calls.{stateOf, step}
 use Rattle.rules.specs.Trace.{isKnown, bodyLength, Event, Opening, Segment, Clock, Release, Item, Registers, Happens, Stops, itemOf, itemsOf}
 use Rattle.rules.specs.Trace.{Replay, beginning, callOf, happened, registered, sightOf, Observer, watched, watching}
@@ -21,6 +22,7 @@ use Rattle.demands.specs.Demand3.{held}
 use Rattle.demands.specs.Exactly.{Octets}
 use Rattle.demands.specs.Demanded.{Matches, Met}
 use Rattle.demands.specs.Replayed.{seenIn, sightsIn, stopsIn, Sees, AllSee, toldOf, leftBy, Replayed}
+use Rattle.demands.proofs.Counted.{none-open}
 use Rattle.demands.proofs.Typed.{all-free}
 use Rattle.demands.proofs.Demanded.{met, met-opened}
 
@@ -82,8 +84,8 @@ items-fit (suc n) (kind ∷ l) o =
     go false rest = (tt, tt)
 
 -- THE RUN: the unopened table matches silence, and every event goes on from there
-unopened-matches : (store : List ℕ) → Matches (stateOf unopened store) silence
-unfolding held
+unopened-matches : (store : List ℕ) → Matches (stateOf unopened emptySummary store) silence
+unfolding held emptySummary
 unopened-matches store =
     record {
       typed = record { count = refl; each = all-free placeCount };
@@ -91,6 +93,7 @@ unopened-matches store =
       time = omega arith;
       early = λ k. tt;
       good = λ e. cc;
+      summary = record { size = refl; sound = none-open };
     }
 
 event-met : (r : Replay) (h : Told) → Matches (r .state) h → (e : Event) → InRange (callOf r e) → Met h (seenBy ours (r .state) (callOf r e))

@@ -17,7 +17,8 @@ use Rattle.rules.specs.Registry.{kindOf}
 use Rattle.rules.specs.Layout.{isUnsegmented, fieldsOf}
 use Rattle.rules.specs.Records.{recordLength, recordOctets, recordsOctets, delivered}
 use Rattle.rules.specs.Places.{noPlace, freePlace, holds, isFree, placeOf, lowestFree, isAt, placeAt}
-use Rattle.rules.specs.Receiving.{lineOf, isStart, effectOf, saveAt, begun, longer, recordWith, receptionOf, Reception, Effect, segment}
+use Rattle.rules.specs.Receiving.{lineOf, isStart, effectOf, saveAt, begun, longer, recordWith, receptionOf, Reception, Effect}
+use Rattle.rules.specs.Summary.{segmentWith}
 use Rattle.rules.specs.Delivery.{delivery, partOf}
 use Rattle.rules.specs.Sending.{firstCarries, laterCarries, pieceOf, headingFor, carried, sending}
 use Rattle.rules.specs.Calls.{State, stateOf, Call, Opens, Arrives, Ticks, Releases, Sends, step, As}
@@ -37,11 +38,12 @@ use Rattle.rules.proofs.Keys.{same-self}
 use Rattle.octets.proofs.Number.{empty}
 use Rattle.rules.proofs.Cutting.{cuttable, pieces, pieces-step, cut-joins, alone-is, within-room}
 use Rattle.rules.proofs.ReadBack.{ReadsBack, read-back}
-use Rattle.demands.specs.Machine.{ours, InRange, isOpening}
+use Rattle.demands.specs.Machine.{ours, CanCount, InRange, isOpening}
 use Rattle.demands.specs.Seen.{seenBy}
 use Rattle.demands.specs.Demand2.{Shipment, numbered, header, countIn, segmentedIn, segmentOf, Sender, sendingOf, Sendable, IsSent, keyIn, recordIn}
 use Rattle.demands.specs.Demand2.{Spares, arrivalOf, Meanwhile, stop, mine, other, isSaved, Saves, BeginsAs, Returns, Ready, CanTake, RoundTrip, Demand2}
 use Rattle.demands.specs.Demanded.{soFar, placeIn, Underway, CanBeSent, Carries}
+use Rattle.demands.proofs.Counted.{summary-kept}
 use Rattle.demands.proofs.Spared.{Kept, clash, first-at}
 use Rattle.demands.proofs.Typed.{typed-kept}
 use Rattle.demands.proofs.Sound.{kept as sound-kept}
@@ -125,6 +127,7 @@ ready-kept x st c o range r =
       typed = typed-kept st c (r .typed) range;
       kind = rw (registry-kept st c o) (r .kind);
       store = rw (store-kept st c) (r .store);
+      summary = summary-kept st c o range (r .summary);
       carrier = r .carrier;
     }
 
@@ -171,7 +174,7 @@ module _ (x : Shipment) (ok : (k : ℕ) → k < countIn x → Facts x k) where
         instruction = p .instruction;
       }
 
-  module _ (st : State) (r : Ready x st) (report : List ℕ) (ample : recordLength ≤ length report) (k : ℕ) (l : k < countIn x) where
+  module _ (st : State) (r : Ready x st) (report : List ℕ) (ample : recordLength ≤ length report) (k : ℕ) (l : k < countIn x) (can : CanCount st (arrivalOf x k report)) where
     abbrev ps : List Place
     ps = st .table .places
 
@@ -179,7 +182,7 @@ module _ (x : Shipment) (ok : (k : ℕ) → k < countIn x → Facts x k) where
     sent = segmentOf x k
 
     abbrev came : Reception
-    came = segment (st .table) (st .store) report (x .association) sent
+    came = segmentWith (st .table) (st .summary) (st .store) report (x .association) sent .call
 
     abbrev call : Call
     call = arrivalOf x k report
@@ -205,12 +208,12 @@ module _ (x : Shipment) (ok : (k : ℕ) → k < countIn x → Facts x k) where
         → came ≡ receptionOf (st .table) report (effectBy line place p free i)
     came-is place free p i e1 e2 e3 e4 line e5 e6 =
         arrives (st .table) (st .store) report (x .association) sent (headingIn x k) (x .origin) (x .destination) (informationIn x k) reads (r .sound) (r .store) ample
-        place free e1 e2 line (rw (e3, e4) e5) e6
+        (st .summary) (r .summary .sound) can place free e1 e2 line (rw (e3, e4) e5) e6
         ∙ (λ n. receptionOf (st .table) report (effectBy line place (e3 n) free (e4 n)))
 
-    state-is : (o : Reception) → came ≡ o → step st call .state ≡ stateOf (o .answer .table) (o .store)
+    state-is : (o : Reception) → came ≡ o → step st call .state ≡ stateOf (o .answer .table) (step st call .state .summary) (o .store)
     unfolding step
-    state-is o e = ap (λ (o : Reception). stateOf (o .answer .table) (o .store)) e
+    state-is o e = ap (λ (o : Reception). stateOf (o .answer .table) (step st call .state .summary) (o .store)) e
 
     keeps-by : (o : Reception) → came ≡ o → o .answer .refusal ≡ 0 → isSaved (As (o .answer .decision)) ≡ true → o .answer .records ≡ 0
         → Saves (step st call .answer)
@@ -351,7 +354,7 @@ module _ (x : Shipment) (ok : (k : ℕ) → k < countIn x → Facts x k) where
           returns = returns-by _ ended refl refl (ended-by _ _ _ (p .instruction) (omega (arith, p .segments)) octets-is) delivers
 
   -- the first of several
-  module _ (st : State) (r : Ready x st) (report : List ℕ) (ample : recordLength ≤ length report) (several : segmentedIn x ≡ true) where
+  module _ (st : State) (r : Ready x st) (report : List ℕ) (ample : recordLength ≤ length report) (several : segmentedIn x ≡ true) (can : CanCount st (arrivalOf x 0 report)) where
     abbrev places : List Place
     places = st .table .places
 
@@ -388,7 +391,7 @@ module _ (x : Shipment) (ok : (k : ℕ) → k < countIn x → Facts x k) where
     restarted : (m : ℕ) → placeOf (keyIn x) places ≡ At m → IsFirst (holds (keyIn x)) places (At m) → Begun (At m)
     unfolding step effectOf start
     restarted m e h =
-        let went = came-is st r report ample 0 some (At m) (lowestFree places) (getD places m noPlace) (part 0) e refl refl (carries st r report ample 0 some several) Restart
+        let went = came-is st r report ample 0 some can (At m) (lowestFree places) (getD places m noPlace) (part 0) e refl refl (carries st r report ample 0 some can several) Restart
         (begun-line true _ _) refl in
         record {
           answer = record {
@@ -396,17 +399,17 @@ module _ (x : Shipment) (ok : (k : ℕ) → k < countIn x → Facts x k) where
             lost = ap (λ (o : Reception). As (o .answer .decision)) went;
             records = ap (λ (o : Reception). o .answer .records) went;
           };
-          progress = subst (λ (u : State). Progress 1 u) (sym (state-is st r report ample 0 some _ went)) (begun-progress m _ (placed m (h .0) (h .2)));
+          progress = subst (λ (u : State). Progress 1 u) (sym (state-is st r report ample 0 some can _ went)) (begun-progress m _ (placed m (h .0) (h .2)));
         }
 
     started : (m : ℕ) → placeOf (keyIn x) places ≡ Nothing → lowestFree places ≡ At m → IsFirst (holds (keyIn x)) places Nothing → IsFirst isFree places (At m)
         → Begun Nothing
     unfolding effectOf start
     started m e e′ h g =
-        let went = came-is st r report ample 0 some Nothing (At m) freePlace (part 0) e e′ refl (carries st r report ample 0 some several) Start (begun-line false _ _) refl in
+        let went = came-is st r report ample 0 some can Nothing (At m) freePlace (part 0) e e′ refl (carries st r report ample 0 some can several) Start (begun-line false _ _) refl in
         record {
-          answer = keeps-by st r report ample 0 some _ went refl refl refl;
-          progress = subst (λ (u : State). Progress 1 u) (sym (state-is st r report ample 0 some _ went))
+          answer = keeps-by st r report ample 0 some can _ went refl refl refl;
+          progress = subst (λ (u : State). Progress 1 u) (sym (state-is st r report ample 0 some can _ went))
               (begun-progress m _ (placed m (g .0) (λ j l. h j (omega (arith, g .0)))));
         }
 
@@ -422,30 +425,30 @@ module _ (x : Shipment) (ok : (k : ℕ) → k < countIn x → Facts x k) where
   -- between the segments
   ahead : {st st′ : State} {i j : ℕ} → Meanwhile ours x st i st′ j → i ≤ j
   ahead stop = omega arith
-  ahead (mine report ample rest) = let l = ahead rest in omega arith
+  ahead (mine report ample can rest) = let l = ahead rest in omega arith
   ahead (other c range spares rest) = ahead rest
 
   along : {st st′ : State} {i j : ℕ} → segmentedIn x ≡ true → Meanwhile ours x st i st′ j → 1 ≤ i → j < countIn x → Ready x st → Progress i st
       → Ready x st′ × Progress j st′
   along several stop one under r p = (r, p)
-  along several (mine {st} {st′} {i} {j} report ample rest) one under r p =
+  along several (mine {st} {st′} {i} {j} report ample can rest) one under r p =
       let l = ahead rest in
       along several rest (omega arith) under (ready-kept x st (arrivalOf x i report) refl (r .carrier) r)
-      (goes-on st r report ample i (omega arith) several p one (omega arith))
+      (goes-on st r report ample i (omega arith) can several p one (omega arith))
   along several (other {st} {st′} {i} {j} c range spares rest) one under r p =
       along several rest one under (ready-kept x st c (not-opening st (keyIn x) c spares) range r) (progress-kept i st c r spares p)
 
   round-trip : (st : State) → Ready x st → (report : List ℕ) → recordLength ≤ length report → RoundTrip ours x st report
   round-trip st r report ample =
       record {
-        alone = λ whole-one. returns-alone st r report ample 0 some whole-one;
-        first = λ several some. begun-first st r report ample several some .answer;
-        later = λ several some j under st′ rest again wide-enough.
+        alone = λ whole-one can. returns-alone st r report ample 0 some can whole-one;
+        first = λ several some can. begun-first st r report ample several can some .answer;
+        later = λ several some can j under st′ rest again wide-enough counts.
             let l = ahead rest in
             let there = along several rest (omega arith) under (ready-kept x st (arrivalOf x 0 report) refl (r .carrier) r)
-            (begun-first st r report ample several some .progress) in (
-              λ more. keeps st′ (there .0) again wide-enough j under several (there .1) (omega arith) more,
-              λ last. returns st′ (there .0) again wide-enough j under several (there .1) (omega arith) last,
+            (begun-first st r report ample several can some .progress) in (
+              λ more. keeps st′ (there .0) again wide-enough j under counts several (there .1) (omega arith) more,
+              λ last. returns st′ (there .0) again wide-enough j under counts several (there .1) (omega arith) last,
             );
       }
 
@@ -489,24 +492,24 @@ module _ (x : Shipment) (ok : (k : ℕ) → k < countIn x → Facts x k) where
       underway j (step st c .state) (ready-kept x st c (not-opening st (keyIn x) c spares) range (u .ready)) (progress-kept j st c (u .ready) spares (progress j st u))
 
   module _ (st : State) (report : List ℕ) (ample : recordLength ≤ length report) where
-    first-underway : segmentedIn x ≡ true → Ready x st → CanTake x st
+    first-underway : segmentedIn x ≡ true → Ready x st → CanTake x st → CanCount st (arrivalOf x 0 report)
         → BeginsAs (step st (arrivalOf x 0 report) .answer) (placeOf (keyIn x) (st .table .places)) (isAt (placeOf (keyIn x) (st .table .places)))
         × Underway x 1 (step st (arrivalOf x 0 report) .state)
-    first-underway several r can =
-        let b = begun-first st r report ample several can in
+    first-underway several r vacant can =
+        let b = begun-first st r report ample several can vacant in
         (b .answer, underway 1 _ (ready-kept x st (arrivalOf x 0 report) refl (r .carrier) r) (b .progress))
 
-    later-underway : segmentedIn x ≡ true → (j : ℕ) → 1 ≤ j → j < countIn x → Underway x j st
+    later-underway : segmentedIn x ≡ true → (j : ℕ) → 1 ≤ j → j < countIn x → Underway x j st → CanCount st (arrivalOf x j report)
         → (suc j < countIn x → Saves (step st (arrivalOf x j report) .answer) × Underway x (suc j) (step st (arrivalOf x j report) .state))
         × (suc j ≡ countIn x → Returns x (seenBy ours st (arrivalOf x j report)))
-    later-underway several j one under u =
+    later-underway several j one under u can =
         let r = u .ready in
         let p = progress j st u in (
           λ more. (
-            keeps st r report ample j under several p one more,
-            underway (suc j) _ (ready-kept x st (arrivalOf x j report) refl (r .carrier) r) (goes-on st r report ample j under several p one more),
+            keeps st r report ample j under can several p one more,
+            underway (suc j) _ (ready-kept x st (arrivalOf x j report) refl (r .carrier) r) (goes-on st r report ample j under can several p one more),
           ),
-          λ last. returns st r report ample j under several p one last,
+          λ last. returns st r report ample j under can several p one last,
         )
 
 all-facts : (x : Shipment) → CanBeSent x → (k : ℕ) → k < countIn x → Facts x k
@@ -521,18 +524,18 @@ carries-all st c range =
       arrives = λ x can.
           (let ok = all-facts x can in
           record {
-            alone = λ one r report ample e.
-                subst (λ (c : Call). Returns x (seenBy ours st c)) (sym e) (returns-alone x ok st r report ample 0 (some x ok) one);
-            first = λ several r vacant report ample e.
+            alone = λ one r can report ample e.
+                subst (λ (c : Call). Returns x (seenBy ours st c)) (sym e) (returns-alone x ok st r report ample 0 (some x ok) (subst (CanCount st) e can) one);
+            first = λ several r vacant can report ample e.
                 subst
                 (λ (c : Call).
                 BeginsAs (step st c .answer) (placeOf (keyIn x) (st .table .places)) (isAt (placeOf (keyIn x) (st .table .places))) × Underway x 1 (step st c .state))
-                (sym e) (first-underway x ok st report ample several r vacant);
-            later = λ several j one under u report ample e.
+                (sym e) (first-underway x ok st report ample several r vacant (subst (CanCount st) e can));
+            later = λ several j one under u can report ample e.
                 subst
                 (λ (c : Call).
                 (suc j < countIn x → Saves (step st c .answer) × Underway x (suc j) (step st c .state)) × (suc j ≡ countIn x → Returns x (seenBy ours st c)))
-                (sym e) (later-underway x ok st report ample several j one under u);
+                (sym e) (later-underway x ok st report ample several j one under u (subst (CanCount st) e can));
           });
       spares = λ x can j u spares. spared-underway x (all-facts x can) st c range j u spares;
     }

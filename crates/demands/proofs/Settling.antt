@@ -65,8 +65,8 @@ counted-one : (x : Segment) (l : List Segment) (c : Cover) → l ≡ [] → c .m
 counted-one x [] c e a b d = (a, b ∙ ap length (sym (append-nil (x .octets))), d)
 counted-one x (y ∷ l) c e a b d = absurd (let z : _≡_ {A = ℕ} 0 1 = cc in omega arith)
 
-abbrev pub segmentWith : Fields → List ℕ → ℕ → ℕ → ℕ → Segment
-segmentWith f octets time number ticks =
+abbrev pub segmentFrom : Fields → List ℕ → ℕ → ℕ → ℕ → Segment
+segmentFrom f octets time number ticks =
     record {
       number = number;
       new = f .heading .new;
@@ -83,7 +83,7 @@ module _ (t : Table) (store s : List ℕ) (f : Fields) (k : Key) (u : Key → Li
   octets = informationOf s f
 
   abbrev x : Segment
-  x = segmentWith f octets (t .clock) number ticks
+  x = segmentFrom f octets (t .clock) number ticks
 
   small : length octets ≤ 255
   small = simp length-drop (omega arith)

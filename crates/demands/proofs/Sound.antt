@@ -1,12 +1,12 @@
 -- Opening gives a sound table and every call keeps it sound.
 use Prim.Native.Nat.{ℕ, _+_, _-_, _≤_, _<_}
 use mathlib.Core.Path.{_≡_, refl, sym, _∙_}
-use mathlib.Core.Bool.{Bool, true, false, not, _&&_, _||_, and-eq-true-iff}
+use mathlib.Core.Bool.{Bool, true, false, not, _&&_, _||_, and-eq-true-iff, true≢false}
 use mathlib.Core.List.{List, [], _∷_}
 use native.Mathlib.Omega.{arith}
 use borrow.Author.Tests.{eqb-true, leb-true, ne-eqb, le-leb, not-true, not-false}
 use lib.Dec.{eqb, leb}
-use lib.ListN.{length, getD, length-drop}
+use lib.ListN.{length, drop, getD, length-drop}
 use Rattle.rules.specs.General.{if_then_else_, every, everyTwo}
 use Rattle.rules.specs.Numbers.{entriesMost, timerInRange, elapsed}
 use Rattle.rules.specs.Refusals.{Check, _when_, accepted, first}
@@ -17,6 +17,7 @@ use Rattle.rules.specs.Soundness.{isZero, addressSound, freeSound, placeSound, 
 use Rattle.rules.specs.Opening.{emptyTable, openingChecks}
 use Rattle.rules.specs.Receiving.{keyOf, informationOf, openPlace, begun, lineOf, effectOf, segmentChecks, Reception}
 use Rattle.rules.specs.Sweep.{Sweeping, clockChecks, releaseChecks}
+use Rattle.rules.specs.Summary.{summarySound, segmentChecksWith, clockChecksWith, releaseChecksWith}
 use Rattle.rules.specs.Sending.{sendingChecks}
 use Rattle.rules.specs.Calls.{State, Call, Opens, Arrives, Ticks, Releases, Sends, Opening, step}
 use Rattle.rules.specs.declared.Entry.{Entry}
@@ -34,16 +35,17 @@ use Rattle.rules.proofs.Reading.{parameter-short, address-short, context-regist
 use Rattle.rules.proofs.Places.{IsFirst, place-is}
 use Rattle.rules.proofs.Held.{every-at, open-is}
 use Rattle.rules.proofs.Arrived.{arrived}
-use Rattle.rules.proofs.Answers.{opened-by, segment-by, clock-by, release-by}
+use Rattle.rules.proofs.Answers.{opened-by, segment-by, segment-accepted, clock-by, release-by}
 use Rattle.rules.proofs.Lines.{line-cases}
 use Rattle.rules.proofs.Apart.{every-set, two-at, two-set, apart-new, apart-own, apart-free}
 use Rattle.rules.proofs.Sweeping.{open-place, clock-sound, release-sound}
 use Rattle.rules.proofs.Soundness.{SoundTable, sound-parts, sound-of, OpenPlace, open-parts, open-of, free-sound, filled-zero}
-use Rattle.demands.specs.Machine.{ours, checksOf, isOpening}
+use Rattle.demands.specs.Machine.{ours, checksOf, isOpening, SoundSummary}
 use Rattle.demands.specs.Seen.{seenBy}
 use Rattle.demands.specs.History.{Told, deedsOf, after}
 use Rattle.demands.specs.Soundness.{LeavesSound, NotBy1, Sound}
-use Rattle.demands.proofs.Refused.{number, accepted-zero, zero-accepted, others, others-least}
+use Rattle.demands.proofs.Refused.{number, accepted-zero, zero-accepted, ones, others-least}
+use Rattle.demands.proofs.Counted.{summary-emptied, summary-kept}
 use Rattle.demands.proofs.Running.{meets, still-opened}
 
 -- a place as a sound table has it
@@ -233,44 +235,57 @@ kept st (Arrives x) h s =
     let t : Table = st .table in
     let ok = sound-parts t s in
     let key : Key = keyOf (x .association) (x .parameter) (fieldsOf (t .registry) (x .parameter)) in
-    segment-by (λ (o : Reception). sound (o .answer .table) ≡ true) t (st .store) (x .report) (x .association) (x .parameter)
+    segment-by t (st .summary) (st .store) (x .report) (x .association) (x .parameter) (λ (o : Reception). sound (o .answer .table) ≡ true)
     (λ e.
-    let reading = arrived t (st .store) (x .report) (x .association) (x .parameter) e .reading in
+    let own = segment-accepted t (st .summary) (st .store) (x .report) (x .association) (x .parameter) e .0 .own in
+    let reading = arrived t (st .store) (x .report) (x .association) (x .parameter) own .reading in
     let good = segment-good t ok (x .association) (x .parameter) reading (st .store) (placeOf key (t .places)) (place-is key (t .places)) (lowestFree (t .places)) in
     sound-of _ (record { timer = ok .timer; registry = ok .registry; places = good .0; apart = good .1 }))
     (λ e. s)
 kept st (Ticks x) h s =
-    clock-by (λ (o : Sweeping). sound (o .answer .table) ≡ true) (st .table) (x .report) (x .time)
+    clock-by (st .table) (st .summary) (x .report) (x .time) (λ (o : Sweeping). sound (o .answer .table) ≡ true)
     (λ e. clock-sound (st .table) (x .report) (x .time) s)
     (λ e. s)
 kept st (Releases x) h s =
-    release-by (λ (o : Sweeping). sound (o .answer .table) ≡ true) (st .table) (x .report) (x .association)
+    release-by (st .table) (st .summary) (x .report) (x .association) (λ (o : Sweeping). sound (o .answer .table) ≡ true)
     (λ e. release-sound (st .table) (x .report) (x .association) s) (λ e. s)
 kept st (Sends x) h s = s
 
--- a sound table passes check 1, and no other has that number
-over-1 : (table : Bool) (cs : List Check) → Least 2 cs → table ≡ true → first (1 when not table ∷ cs) ≡ 1 → ⊥
-over-1 false cs h t e = let z : _≡_ {A = ℕ} 0 1 = cc in omega arith
-over-1 true cs h t e = go (accepted cs) refl
+-- a sound table and a sound summary pass their checks, and no other has the number 1
+over-1 : (cs : List Check) → Least 2 cs → first cs ≡ 1 → ⊥
+over-1 cs h e = go (accepted cs) refl
   where
     go : (b : Bool) → accepted cs ≡ b → ⊥
     go true a = omega (arith, accepted-first cs a)
     go false a = omega (arith, first-least 2 cs h a)
 
-pub passes-1 : (st : State) (c : Call) → isOpening c ≡ false → sound (st .table) ≡ true → first (checksOf st c) ≡ 1 → ⊥
-unfolding segmentChecks clockChecks releaseChecks sendingChecks
-passes-1 st c o s e = go c o (others-least st c) e
+first-passed : (b : Bool) (n : ℕ) (cs : List Check) → b ≡ true → first (n when not b ∷ cs) ≡ first cs
+first-passed b n cs e = rw e
+
+pub passes-1 : (st : State) (c : Call) → isOpening c ≡ false → sound (st .table) ≡ true → summarySound (st .summary) (st .table .places) ≡ true → first (checksOf st c) ≡ 1 → ⊥
+unfolding segmentChecksWith segmentChecks clockChecksWith clockChecks releaseChecksWith releaseChecks sendingChecks
+passes-1 st c o s m e = go c o (others-least st c) e
   where
-    go : (c : Call) → isOpening c ≡ false → Least 2 (others (checksOf st c)) → first (checksOf st c) ≡ 1 → ⊥
+    both : (cs : List Check) → Least 2 cs → first (1 when not (summarySound (st .summary) (st .table .places)) ∷ 1 when not (sound (st .table)) ∷ cs) ≡ 1 → ⊥
+    both cs h e = over-1 cs h (sym (first-passed (summarySound (st .summary) (st .table .places)) 1 (1 when not (sound (st .table)) ∷ cs) m ∙ first-passed (sound (st .table)) 1 cs s) ∙ e)
+
+    go : (c : Call) → isOpening c ≡ false → Least 2 (drop (ones c) (checksOf st c)) → first (checksOf st c) ≡ 1 → ⊥
     go (Opens x) o h e = let z : _≡_ {A = ℕ} 0 1 = cc in omega arith
-    go (Arrives x) o h e = over-1 (sound (st .table)) (others (checksOf st (Arrives x))) h s e
-    go (Ticks x) o h e = over-1 (sound (st .table)) (others (checksOf st (Ticks x))) h s e
-    go (Releases x) o h e = over-1 (sound (st .table)) (others (checksOf st (Releases x))) h s e
-    go (Sends x) o h e = over-1 (sound (st .table)) (others (checksOf st (Sends x))) h s e
+    go (Arrives x) o h e = both (drop 2 (checksOf st (Arrives x))) h e
+    go (Ticks x) o h e = both (drop 2 (checksOf st (Ticks x))) h e
+    go (Releases x) o h e = both (drop 2 (checksOf st (Releases x))) h e
+    go (Sends x) o h e = over-1 (drop 1 (checksOf st (Sends x))) h (sym (first-passed (sound (st .table)) 1 (drop 1 (checksOf st (Sends x))) s) ∙ e)
 
 pub leaves-sound : (st : State) (c : Call) → LeavesSound (seenBy ours st c)
-leaves-sound st c = record { opened = go c; kept = kept st c }
+leaves-sound st c = record { opened = go c; kept = kept st c; emptied = new c; counted = summary-kept st c }
   where
+    new : (c : Call) → isOpening c ≡ true → SoundSummary (step st c .state)
+    new (Opens x) o = summary-emptied st x
+    new (Arrives x) o = absurd (true≢false (sym o))
+    new (Ticks x) o = absurd (true≢false (sym o))
+    new (Releases x) o = absurd (true≢false (sym o))
+    new (Sends x) o = absurd (true≢false (sym o))
+
     go : (c : Call) → isOpening c ≡ true → accepted (checksOf st c) ≡ true → sound (step st c .state .table) ≡ true
     go (Opens x) o ok = opened st x ok
     go (Arrives x) o ok = cc
@@ -278,9 +293,10 @@ leaves-sound st c = record { opened = go c; kept = kept st c }
     go (Releases x) o ok = cc
     go (Sends x) o ok = cc
 
--- where the last opening was accepted the table is sound
-abbrev SoundOnce : State → Told → Type 0
-SoundOnce st h = h .opened ≡ true → sound (st .table) ≡ true
+-- where the last opening was accepted the table is sound, and after any the summary
+record SoundOnce (st : State) (h : Told) : Type 0 where
+  table : h .opened ≡ true → sound (st .table) ≡ true
+  summary : SoundSummary st
 
 -- an opening has no check with the number 1
 pub opening-over-1 : (st : State) (o : Opening) → step st (Opens o) .answer .refusal ≡ 1 → ⊥
@@ -301,10 +317,10 @@ soundness =
       never1 = meets NotBy1 SoundOnce
           (λ st h o r. (
             λ e. opening-over-1 st o,
-            λ e. opened st o (zero-accepted st (Opens o) (eqb-true (step st (Opens o) .answer .refusal) 0 e)),
+            record { table = λ e. opened st o (zero-accepted st (Opens o) (eqb-true (step st (Opens o) .answer .refusal) 0 e)); summary = summary-emptied st o },
           ))
           (λ st h s c r o. (
-            λ e z. passes-1 st c o (s e) (sym (number st c) ∙ z),
-            λ e. kept st c o (s (sym (still-opened h (seenBy ours st c) o) ∙ e)),
+            λ e z. passes-1 st c o (s .table e) (s .summary .sound) (sym (number st c) ∙ z),
+            record { table = λ e. kept st c o (s .table (sym (still-opened h (seenBy ours st c) o) ∙ e)); summary = summary-kept st c o r (s .summary) },
           ));
     }

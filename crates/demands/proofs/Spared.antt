@@ -11,13 +11,12 @@ use lib.Seq.{getD-set-same, getD-set-other}
 use Rattle.octets.proofs.Splice.{splice-length, splice-below, splice-above}
 use Rattle.rules.specs.General.{if_then_else_, those}
 use Rattle.rules.specs.Numbers.{dataMost, storeLeast, placeStart}
-use Rattle.rules.specs.Refusals.{Check, _when_, accepted, first}
+use Rattle.rules.specs.Refusals.{Check, accepted, first}
 use Rattle.rules.specs.Layout.{isUnsegmented, fieldsOf, readingChecks}
 use Rattle.rules.specs.Places.{noPlace, freePlace, isOpen, isFree, holds, firstFrom, placeOf, lowestFree, numberOf, putPlace, placeAt, isAt}
-use Rattle.rules.specs.Records.{recordLength}
-use Rattle.rules.specs.Soundness.{sound}
 use Rattle.rules.specs.Sweep.{lossOf, freedBy}
-use Rattle.rules.specs.Receiving.{keyOf, informationOf, lineOf, effectOf, saveAt, begun, longer, receivedAt, Reception, segmentChecks, segment}
+use Rattle.rules.specs.Receiving.{keyOf, informationOf, lineOf, effectOf, saveAt, begun, longer, receivedAt, Reception, unreceived}
+use Rattle.rules.specs.Summary.{segmentChecksWith, segmentWith}
 use Rattle.rules.specs.declared.Key.{Key}
 use Rattle.rules.specs.declared.Place.{Place}
 use Rattle.rules.specs.declared.Table.{Table}
@@ -27,12 +26,12 @@ use Rattle.rules.specs.declared.Found.{Found}
 use Rattle.rules.specs.declared.Found.the-variants.{At, Nothing}
 use Rattle.rules.specs.declared.Line.{Line}
 use Rattle.rules.specs.declared.Line.the-variants.{Unsegmented, Broken, Restart, Start, Final, Next}
-use Rattle.rules.specs.declared.Decision.the-variants.{Refused}
 use Rattle.rules.specs.declared.Record.{Record}
 use Rattle.demands.specs.Machine.{All}
 use Rattle.rules.proofs.Places.{IsFirst, first-is, place-is, free-is}
 use Rattle.rules.proofs.Keys.{same-equal}
-use Rattle.rules.proofs.Refusals.{accepted-append}
+use Rattle.rules.proofs.Answers.{segment-accepted}
+use Rattle.rules.proofs.Arrived.{arrived}
 use Rattle.rules.proofs.Reading.{parameter-short}
 
 -- a key's place, with a place there and octets at the front of its stretch of the store
@@ -174,29 +173,20 @@ effect-length t store key f octets place q vacant Start = splice-length store _ 
 effect-length t store key f octets place q vacant Final = splice-length store _ octets
 effect-length t store key f octets place q vacant Next = splice-length store _ octets
 
--- the checks of a segment before its octets
-abbrev pub lentChecks : Table → List ℕ → List ℕ → List Check
-lentChecks t store report = 1 when not (sound t) ∷ 2 when ltb (length store) storeLeast ∷ 3 when ltb (length report) recordLength ∷ []
-
-module _ (t : Table) (store report : List ℕ) (association : ℕ) (s : List ℕ) where
+module _ (t : Table) (m store report : List ℕ) (association : ℕ) (s : List ℕ) where
   abbrev checks : List Check
-  checks = segmentChecks t store report association s
+  checks = segmentChecksWith t m store report association s
 
-  pub segment-is : accepted checks ≡ true → segment t store report association s ≡ receivedAt t store report association s
-  unfolding segment
+  pub segment-is : accepted checks ≡ true → segmentWith t m store report association s .call ≡ receivedAt t store report association s
+  unfolding segmentWith
   segment-is e = rw e
 
-  pub segment-refused : accepted checks ≡ false → segment t store report association s
-      ≡ record { answer = record { table = t; decision = Refused; refusal = first checks; records = 0 }; store = store; report = report }
-  unfolding segment
+  pub segment-refused : accepted checks ≡ false → segmentWith t m store report association s .call ≡ unreceived t store report (first checks)
+  unfolding segmentWith
   segment-refused e = rw e
 
   reading-accepted : accepted checks ≡ true → accepted (readingChecks (t .registry) s) ≡ true
-  unfolding segmentChecks
-  reading-accepted e =
-      let front : List Check = lentChecks t store report in
-      let all = and-eq-true-iff (accepted (front ++ readingChecks (t .registry) s)) _ .0 (sym (accepted-append (front ++ readingChecks (t .registry) s) _) ∙ e) .0 in
-      and-eq-true-iff (accepted front) _ .0 (sym (accepted-append front (readingChecks (t .registry) s)) ∙ all) .1
+  reading-accepted e = arrived t store report association s (segment-accepted t m store report association s e .0 .own) .reading
 
   abbrev f : Fields
   f = fieldsOf (t .registry) s
@@ -235,7 +225,7 @@ module _ (t : Table) (store report : List ℕ) (association : ℕ) (s : List ℕ
         let l = parameter-short (t .registry) s (reading-accepted ok) in
         rw (length-drop (f .information) s) (omega arith)
 
-    pub segment-kept : Kept k i p saved (segment t store report association s .answer .table .places) (segment t store report association s .store)
+    pub segment-kept : Kept k i p saved (segmentWith t m store report association s .call .answer .table .places) (segmentWith t m store report association s .call .store)
     segment-kept =
         let place : Found = placeOf key (t .places) in
         let q : Place = placeAt (t .places) place in
@@ -244,17 +234,17 @@ module _ (t : Table) (store report : List ℕ) (association : ℕ) (s : List ℕ
         (line-fits (isAt place) (q .remaining .0) (q .octets) (f .heading) (length (informationOf s f))))
 
   -- what no segment changes
-  pub segment-registry : segment t store report association s .answer .table .registry ≡ t .registry
+  pub segment-registry : segmentWith t m store report association s .call .answer .table .registry ≡ t .registry
   segment-registry = go (accepted checks) refl
     where
-      go : (b : Bool) → accepted checks ≡ b → segment t store report association s .answer .table .registry ≡ t .registry
+      go : (b : Bool) → accepted checks ≡ b → segmentWith t m store report association s .call .answer .table .registry ≡ t .registry
       go true e = ap (λ (o : Reception). o .answer .table .registry) (segment-is e)
       go false e = ap (λ (o : Reception). o .answer .table .registry) (segment-refused e)
 
-  pub segment-length : length (segment t store report association s .store) ≡ length store
+  pub segment-length : length (segmentWith t m store report association s .call .store) ≡ length store
   segment-length = go (accepted checks) refl
     where
-      go : (b : Bool) → accepted checks ≡ b → length (segment t store report association s .store) ≡ length store
+      go : (b : Bool) → accepted checks ≡ b → length (segmentWith t m store report association s .call .store) ≡ length store
       go true e = ap (λ (o : Reception). length (o .store)) (segment-is e) ∙ effect-length t store key f (informationOf s f) _ _ _ _
       go false e = ap (λ (o : Reception). length (o .store)) (segment-refused e)
 

@@ -7,13 +7,12 @@ use native.Mathlib.Omega.{arith}
 use borrow.Author.Tests.{ltb-false, leb-true, eqb-false, not-true}
 use lib.ListN.{length}
 use Rattle.rules.specs.General.{if_then_else_, every, those}
-use Rattle.rules.specs.Refusals.{Check, accepted, first}
+use Rattle.rules.specs.Refusals.{accepted}
 use Rattle.rules.specs.Registry.{kindOf, isUsable}
 use Rattle.rules.specs.Records.{recordsFrom}
 use Rattle.rules.specs.Places.{noPlace, isOpen}
 use Rattle.rules.specs.Soundness.{openSound, placeSound, sound}
-use Rattle.rules.specs.Receiving.{segmentChecks}
-use Rattle.rules.specs.Sweep.{lossOf, sweep, Sweeping, unswept, reportLeast, isDue, isOf, clockChecks, releaseChecks, clock, release, lossesBy}
+use Rattle.rules.specs.Sweep.{lossOf, sweep, Sweeping, reportLeast, isDue, isOf, clockChecks, releaseChecks, lossesBy}
 use Rattle.rules.specs.Calls.{State, Call, Opens, Arrives, Ticks, Releases, Sends, step}
 use Rattle.rules.specs.declared.Entry.{Entry}
 use Rattle.rules.specs.declared.Key.{Key}
@@ -23,9 +22,14 @@ use Rattle.rules.specs.declared.Record.{Record}
 use Rattle.rules.proofs.Cutting.{kind-known}
 use Rattle.rules.proofs.Held.{open-is, places-sound}
 use Rattle.rules.proofs.Records.{Fits, AllFit, records-back}
-use Rattle.demands.specs.Machine.{isOpening, All, TypedPlace, Typed}
+use Rattle.rules.proofs.Answers.{clock-by, clock-accepted, release-by, release-accepted}
+use Rattle.demands.specs.Machine.{checksOf, isOpening, All, TypedPlace, Typed}
 use Rattle.demands.specs.Demand2.{Spares}
 use Rattle.demands.proofs.Spared.{Kept, segment-kept, segment-refused, segment-registry, segment-length, sweep-kept}
+
+-- no record of it is of a key
+abbrev Silent : Key → Sweeping → Type 0
+Silent k o = All (λ (r : Record). r .key ≡ k → ⊥) (recordsFrom (o .answer .records) (o .report))
 
 pub registry-usable : (t : Table) → sound t ≡ true → every isUsable (t .registry) ≡ true
 unfolding sound
@@ -72,28 +76,12 @@ module _ (test : Place → Bool) (opens : (p : Place) → test p ≡ true → is
         records-back (lossesBy test cause (t .places)) report
         (losses-fit (t .registry) (t .timer) (t .clock) (t .places) (registry-usable t good) (places-sound t good) (typed .each)) (omega arith)
 
-    module _ (k : Key) (i : ℕ) (p : Place) (saved store : List ℕ) (none : test noPlace ≡ false) (checks : List Check)
-        (ample : accepted checks ≡ true → reportLeast ≤ length report) (kept : Kept k i p saved (t .places) store) where
-      abbrev done : Bool → Sweeping
-      done b = if b then sweep test cause time t report else unswept t report (first checks)
-
-      judged-kept : All (λ (r : Record). r .key ≡ k → ⊥) (recordsFrom (done (accepted checks) .answer .records) (done (accepted checks) .report))
-          → Kept k i p saved (done (accepted checks) .answer .table .places) store
-      unfolding sweep
-      judged-kept = go (accepted checks) refl
-        where
-          go : (b : Bool) → accepted checks ≡ b → All (λ (r : Record). r .key ≡ k → ⊥) (recordsFrom (done b .answer .records) (done b .report))
-              → Kept k i p saved (done b .answer .table .places) store
-          go true e others =
-              sweep-kept k i p saved store test cause (t .places) none
-              (subst (λ (rs : List Record). All (λ (r : Record). r .key ≡ k → ⊥) rs) (sweep-back (ample e)) others) kept
-          go false e others = kept
-
-swept-registry : (test : Place → Bool) (cause time : ℕ) (t : Table) (report : List ℕ) (n : ℕ) (b : Bool)
-    → (if b then sweep test cause time t report else unswept t report n) .answer .table .registry ≡ t .registry
-unfolding sweep
-swept-registry test cause time t report n true = refl
-swept-registry test cause time t report n false = refl
+    carried-kept : (k : Key) (i : ℕ) (p : Place) (saved store : List ℕ) → test noPlace ≡ false → Kept k i p saved (t .places) store → reportLeast ≤ length report
+        → Silent k (sweep test cause time t report) → Kept k i p saved (sweep test cause time t report .answer .table .places) store
+    unfolding sweep
+    carried-kept k i p saved store none kept ample others =
+        sweep-kept k i p saved store test cause (t .places) none
+        (subst (λ (rs : List Record). All (λ (r : Record). r .key ≡ k → ⊥) rs) (sweep-back ample) others) kept
 
 clock-ample : (t : Table) (report : List ℕ) (time : ℕ) → accepted (clockChecks t report time) ≡ true → reportLeast ≤ length report
 unfolding clockChecks
@@ -106,35 +94,41 @@ release-ample t report e = ltb-false (length report) reportLeast (not-true _ ((s
 -- the place and what was saved there
 pub spared : (k : Key) (i : ℕ) (p : Place) (saved : List ℕ) → length saved ≤ 2048 → (st : State) (c : Call) → sound (st .table) ≡ true → Typed (st .table)
     → Spares st k c → Kept k i p saved (st .table .places) (st .store) → Kept k i p saved (step st c .state .table .places) (step st c .state .store)
-unfolding step clock release
+unfolding step
 spared k i p saved size st (Opens x) good typed spares kept = absurd spares
-spared k i p saved size st (Arrives x) good typed spares kept = go (accepted (segmentChecks (st .table) (st .store) (x .report) (x .association) (x .parameter))) refl
+spared k i p saved size st (Arrives x) good typed spares kept = go (accepted (checksOf st (Arrives x))) refl
   where
-    go : (b : Bool) → accepted (segmentChecks (st .table) (st .store) (x .report) (x .association) (x .parameter)) ≡ b
-        → Kept k i p saved (step st (Arrives x) .state .table .places) (step st (Arrives x) .state .store)
-    go true e = segment-kept (st .table) (st .store) (x .report) (x .association) (x .parameter) k i p saved size kept (typed .count) e (spares e)
-    go false e = rw (segment-refused (st .table) (st .store) (x .report) (x .association) (x .parameter) e) kept
+    go : (b : Bool) → accepted (checksOf st (Arrives x)) ≡ b → Kept k i p saved (step st (Arrives x) .state .table .places) (step st (Arrives x) .state .store)
+    go true e = segment-kept (st .table) (st .summary) (st .store) (x .report) (x .association) (x .parameter) k i p saved size kept (typed .count) e (spares e)
+    go false e = rw (segment-refused (st .table) (st .summary) (st .store) (x .report) (x .association) (x .parameter) e) kept
 spared k i p saved size st (Ticks x) good typed spares kept =
-    judged-kept (isDue (x .time) (st .table .timer)) (λ q e. and-eq-true-iff (isOpen q) _ .0 e .0) 6 (st .table) good typed (x .time) (x .report) k i p saved (st .store) refl
-    (clockChecks (st .table) (x .report) (x .time)) (clock-ample (st .table) (x .report) (x .time)) kept spares
+    clock-by (st .table) (st .summary) (x .report) (x .time) (λ (o : Sweeping). Silent k o → Kept k i p saved (o .answer .table .places) (st .store))
+    (λ e.
+    carried-kept (isDue (x .time) (st .table .timer)) (λ q e. and-eq-true-iff (isOpen q) _ .0 e .0) 6 (st .table) good typed (x .time) (x .report) k i p saved (st .store) refl kept
+    (clock-ample (st .table) (x .report) (x .time) (clock-accepted (st .table) (st .summary) (x .report) (x .time) e .own)))
+    (λ e others. kept) spares
 spared k i p saved size st (Releases x) good typed spares kept =
-    judged-kept (isOf (x .association)) (λ q e. and-eq-true-iff (isOpen q) _ .0 e .0) 7 (st .table) good typed (st .table .clock) (x .report) k i p saved (st .store) refl
-    (releaseChecks (st .table) (x .report)) (release-ample (st .table) (x .report)) kept spares
+    release-by (st .table) (st .summary) (x .report) (x .association) (λ (o : Sweeping). Silent k o → Kept k i p saved (o .answer .table .places) (st .store))
+    (λ e.
+    carried-kept (isOf (x .association)) (λ q e. and-eq-true-iff (isOpen q) _ .0 e .0) 7 (st .table) good typed (st .table .clock) (x .report) k i p saved (st .store) refl kept
+    (release-ample (st .table) (x .report) (release-accepted (st .table) (st .summary) (x .report) (x .association) e .own)))
+    (λ e others. kept) spares
 spared k i p saved size st (Sends x) good typed spares kept = kept
 
 -- the registry and the store's length
 pub registry-kept : (st : State) (c : Call) → isOpening c ≡ false → step st c .state .table .registry ≡ st .table .registry
-unfolding step clock release
+unfolding step sweep
 registry-kept st (Opens x) o = cc
-registry-kept st (Arrives x) o = segment-registry (st .table) (st .store) (x .report) (x .association) (x .parameter)
-registry-kept st (Ticks x) o = swept-registry _ 6 (x .time) (st .table) (x .report) _ (accepted (clockChecks (st .table) (x .report) (x .time)))
-registry-kept st (Releases x) o = swept-registry _ 7 (st .table .clock) (st .table) (x .report) _ (accepted (releaseChecks (st .table) (x .report)))
+registry-kept st (Arrives x) o = segment-registry (st .table) (st .summary) (st .store) (x .report) (x .association) (x .parameter)
+registry-kept st (Ticks x) o = clock-by (st .table) (st .summary) (x .report) (x .time) (λ (s : Sweeping). s .answer .table .registry ≡ st .table .registry) (λ e. refl) (λ e. refl)
+registry-kept st (Releases x) o =
+    release-by (st .table) (st .summary) (x .report) (x .association) (λ (s : Sweeping). s .answer .table .registry ≡ st .table .registry) (λ e. refl) (λ e. refl)
 registry-kept st (Sends x) o = refl
 
 pub store-kept : (st : State) (c : Call) → length (step st c .state .store) ≡ length (st .store)
 unfolding step
 store-kept st (Opens x) = refl
-store-kept st (Arrives x) = segment-length (st .table) (st .store) (x .report) (x .association) (x .parameter)
+store-kept st (Arrives x) = segment-length (st .table) (st .summary) (st .store) (x .report) (x .association) (x .parameter)
 store-kept st (Ticks x) = refl
 store-kept st (Releases x) = refl
 store-kept st (Sends x) = refl

@@ -14,7 +14,9 @@ use Rattle.rules.specs.Records.{lost}
 use Rattle.rules.specs.Places.{sameKey, isOpen, holds}
 use Rattle.rules.specs.Soundness.{placeSound, openSound, sound}
 use Rattle.rules.specs.Receiving.{lineOf}
-use Rattle.rules.specs.Sweep.{lossOf, reportLeast, isDue, clock, lossesBy}
+use Rattle.rules.specs.Sweep.{lossOf, reportLeast, isDue, lossesBy}
+use Rattle.rules.specs.Summary.{clockWith, clockChecksWith}
+use Rattle.rules.proofs.Answers.{clock-accepted}
 use Rattle.rules.specs.Calls.{State, Call, Opens, Arrives, Ticks, Releases, Sends, Opening, Tick, step}
 use Rattle.rules.specs.declared.Entry.{Entry}
 use Rattle.rules.specs.declared.Key.{Key}
@@ -172,14 +174,14 @@ module _ (st : State) (h : Told) (inv : Inv st h) where
   t = st .table
 
   ticks-good : (x : Tick) → eqb (step st (Ticks x) .answer .refusal) 0 ≡ true → (sound t ≡ true) × (reportLeast ≤ length (x .report)) × (elapsed (x .time) (t .clock) < 2 ^ 31)
-  ticks-good x e = clock-good t (x .report) (x .time) (zero-accepted st (Ticks x) (eqb-true _ 0 e))
+  ticks-good x e = clock-good t (x .report) (x .time) (clock-accepted t (st .summary) (x .report) (x .time) (zero-accepted st (Ticks x) (eqb-true _ 0 e)) .own)
 
   ticks-records : (x : Tick) → eqb (step st (Ticks x) .answer .refusal) 0 ≡ true → recordsIn (step st (Ticks x) .answer) ≡ lossesBy (isDue (x .time) (t .timer)) 6 (t .places)
-  unfolding step clock
+  unfolding step clockWith clockChecksWith
   ticks-records x e =
       let c = ticks-good x e in
       rw (zero-accepted st (Ticks x) (eqb-true _ 0 e))
-      (made-back st h inv (isDue (x .time) (t .timer)) (due-open st h inv (x .time) (t .timer)) 6 (x .report) (c .0) (c .1) (x .time))
+      (made-back st h inv (isDue (x .time) (t .timer)) (due-open st h inv (x .time) (t .timer)) 6 (x .report) (c .0) (c .1) (x .time) (st .summary))
 
   module _ (timely : Timely h) where
     -- what is uncovered is not T old, and stays timed by the clock

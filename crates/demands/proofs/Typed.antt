@@ -24,7 +24,7 @@ use Rattle.rules.specs.declared.Found.the-variants.{At, Nothing}
 use Rattle.rules.specs.declared.Line.{Line}
 use Rattle.rules.specs.declared.Line.the-variants.{Unsegmented, Broken, Restart, Start, Final, Next}
 use Rattle.rules.specs.declared.Opened.{Opened}
-use Rattle.rules.proofs.Answers.{opened-by, segment-by, clock-by, release-by}
+use Rattle.rules.proofs.Answers.{opened-by, segment-by, segment-accepted, clock-by, release-by}
 use Rattle.rules.proofs.Reading.{address-short}
 use Rattle.rules.proofs.Arrived.{arrived}
 use Rattle.demands.specs.Machine.{All, InRange, TypedPlace, Typed}
@@ -93,15 +93,16 @@ unfolding step
 typed-kept st (Opens x) h r = typed-opened st (x .registry) (x .timer) (x .time)
 typed-kept st (Arrives x) h r =
     let s : List ℕ = x .parameter in
-    segment-by (λ (o : Reception). Typed (o .answer .table)) (st .table) (st .store) (x .report) (x .association) s
+    segment-by (st .table) (st .summary) (st .store) (x .report) (x .association) s (λ (o : Reception). Typed (o .answer .table))
     (λ e.
-    let short = address-short (st .table .registry) s (arrived (st .table) (st .store) (x .report) (x .association) s e .reading) in
+    let own = segment-accepted (st .table) (st .summary) (st .store) (x .report) (x .association) s e .0 .own in
+    let short = address-short (st .table .registry) s (arrived (st .table) (st .store) (x .report) (x .association) s own .reading) in
     let all = effect-typed _ (st .table) (st .store) _ _ _ _ _ _ (key-typed (x .association) s (fieldsOf (st .table .registry) s) r short) (h .count, h .each) in
     record { count = all .0; each = all .1 })
     (λ e. h)
 typed-kept st (Ticks x) h r =
-    clock-by (λ (o : Sweeping). Typed (o .answer .table)) (st .table) (x .report) (x .time) (λ e. sweep-typed _ 6 (x .time) (st .table) (x .report) h) (λ e. h)
+    clock-by (st .table) (st .summary) (x .report) (x .time) (λ (o : Sweeping). Typed (o .answer .table)) (λ e. sweep-typed _ 6 (x .time) (st .table) (x .report) h) (λ e. h)
 typed-kept st (Releases x) h r =
-    release-by (λ (o : Sweeping). Typed (o .answer .table)) (st .table) (x .report) (x .association) (λ e. sweep-typed _ 7 (st .table .clock) (st .table) (x .report) h)
+    release-by (st .table) (st .summary) (x .report) (x .association) (λ (o : Sweeping). Typed (o .answer .table)) (λ e. sweep-typed _ 7 (st .table .clock) (st .table) (x .report) h)
     (λ e. h)
 typed-kept st (Sends x) h r = h

@@ -4,13 +4,14 @@ use mathlib.Core.Bool.{false}
 use mathlib.Core.List.{[]}
 use Rattle.rules.specs.Refusals.{accepted, first}
 use Rattle.rules.specs.Opening.{unopened}
+use Rattle.rules.specs.Summary.{emptySummary}
 use Rattle.rules.specs.Calls.{State, stateOf, Call, Opens, Arrives, Ticks, Releases, Sends, refusing}
 use Rattle.demands.specs.Machine.{Machine, checksOf}
 use Rattle.demands.specs.Seen.{Seen, seenBy}
 
--- the state after a refusal: as it came; of an opening, the unopened table
+-- the state after a refusal: as it came, all 512 numbers of the summary too; of an opening, the unopened table and all 512 zero
 abbrev pub refusedState : State → Call → State
-refusedState st (Opens x) = stateOf unopened (st .store)
+refusedState st (Opens x) = stateOf unopened emptySummary (st .store)
 refusedState st (Arrives x) = st
 refusedState st (Ticks x) = st
 refusedState st (Releases x) = st

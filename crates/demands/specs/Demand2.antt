@@ -1,5 +1,5 @@
 -- DEMAND 2, the round trip. Data that we cut comes back unchanged when its segments arrive in order at a table with the same kind for the context, a place is free
--- for the first, and nothing else touches that sequence meanwhile.
+-- for the first, the summary can count each (neither 21 nor 22 applies), and nothing else touches that sequence meanwhile.
 use Prim.Native.Nat.{ℕ, suc, _≤_, _<_, _^_}
 use mathlib.Core.Path.{_≡_}
 use mathlib.Core.Bool.{Bool, true, false, _||_}
@@ -24,7 +24,7 @@ use Rattle.rules.specs.declared.Request.{Request}
 use Rattle.rules.specs.declared.Found.{Found}
 use Rattle.rules.specs.declared.Decision.{Decision}
 use Rattle.rules.specs.declared.Decision.the-variants.{Refused, Saved, Delivered, Lost}
-use Rattle.demands.specs.Machine.{Machine, checksOf, All, InRange, Typed}
+use Rattle.demands.specs.Machine.{Machine, checksOf, CanCount, All, InRange, Typed, SoundSummary}
 use Rattle.demands.specs.Seen.{Seen, seenBy}
 use Rattle.demands.specs.History.{recordsIn}
 
@@ -112,10 +112,10 @@ Spares st k (Sends x) = Unit {0}
 abbrev pub arrivalOf : Shipment → ℕ → List ℕ → Call
 arrivalOf x k report = toArrive (x .association) (segmentOf x k) report
 
--- calls from a state on in which segments i, i + 1, .. below j arrive in order and nothing else touches their sequence
+-- calls from a state on in which segments i, i + 1, .. below j arrive in order, the summary can count each, and nothing else touches their sequence
 pub data Meanwhile (m : Machine) (x : Shipment) : State → ℕ → State → ℕ → Type 0 where
   stop : {st : State} {i : ℕ} → Meanwhile m x st i st i
-  mine : {st st′ : State} {i j : ℕ} (report : List ℕ) → recordLength ≤ length report → Meanwhile m x (m .step st (arrivalOf x i report) .state) (suc i) st′ j → Meanwhile m x st i st′ j
+  mine : {st st′ : State} {i j : ℕ} (report : List ℕ) → recordLength ≤ length report → CanCount st (arrivalOf x i report) → Meanwhile m x (m .step st (arrivalOf x i report) .state) (suc i) st′ j → Meanwhile m x st i st′ j
   other : {st st′ : State} {i j : ℕ} (c : Call) → InRange c → Spares st (keyIn x) c → Meanwhile m x (m .step st c .state) i st′ j → Meanwhile m x st i st′ j
 
 -- what an arrival is answered: saved with no record; the loss of what was saved before, for a restart; delivered
@@ -147,12 +147,13 @@ pub record Returns (x : Shipment) (y : Seen) : Type 0 where
   pub reported : take recordLength (y .answer .lent .report) ≡ recordOctets (recordIn x)
   pub handed : y .handed ≡ x .whole
 
--- the receiver's table is sound, with the same kind for the context, and its store is long enough; the numbers are of their types
+-- the receiver's table and summary are sound, with the same kind for the context, and its store is long enough; the numbers are of their types
 pub record Ready (x : Shipment) (st : State) : Type 0 where
   pub sound : sound (st .table) ≡ true
   pub typed : Typed (st .table)
   pub kind : kindOf (st .table .registry) (x .request .context .0) ≡ x .kind
   pub store : storeLeast ≤ length (st .store)
+  pub summary : SoundSummary st
   pub carrier : x .association < 2 ^ 16
 
 -- the first of several can be taken: its key is open, or a place is free
@@ -161,13 +162,13 @@ CanTake x st = (isAt (placeOf (keyIn x) (st .table .places)) || isAt (lowestFree
 
 pub record RoundTrip (m : Machine) (x : Shipment) (st : State) (report : List ℕ) : Type 0 where
   -- one segment: delivered at once
-  pub alone : segmentedIn x ≡ false → Returns x (seenBy m st (arrivalOf x 0 report))
+  pub alone : segmentedIn x ≡ false → CanCount st (arrivalOf x 0 report) → Returns x (seenBy m st (arrivalOf x 0 report))
   -- several: the first is saved
-  pub first : segmentedIn x ≡ true → CanTake x st
+  pub first : segmentedIn x ≡ true → CanTake x st → CanCount st (arrivalOf x 0 report)
       → BeginsAs (m .step st (arrivalOf x 0 report) .answer) (placeOf (keyIn x) (st .table .places)) (isAt (placeOf (keyIn x) (st .table .places)))
   -- each later one but the last is saved, and the last delivers
-  pub later : segmentedIn x ≡ true → CanTake x st → (j : ℕ) → j < countIn x → (st′ : State) → Meanwhile m x (m .step st (arrivalOf x 0 report) .state) 1 st′ j
-      → (again : List ℕ) → recordLength ≤ length again
+  pub later : segmentedIn x ≡ true → CanTake x st → CanCount st (arrivalOf x 0 report) → (j : ℕ) → j < countIn x → (st′ : State) → Meanwhile m x (m .step st (arrivalOf x 0 report) .state) 1 st′ j
+      → (again : List ℕ) → recordLength ≤ length again → CanCount st′ (arrivalOf x j again)
       → (suc j < countIn x → Saves (m .step st′ (arrivalOf x j again) .answer)) × (suc j ≡ countIn x → Returns x (seenBy m st′ (arrivalOf x j again)))
 
 pub record Demand2 (m : Machine) : Type 0 where

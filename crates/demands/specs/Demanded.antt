@@ -14,7 +14,7 @@ use Rattle.rules.specs.Calls.{State}
 use Rattle.rules.specs.declared.Key.{Key}
 use Rattle.rules.specs.declared.Place.{Place}
 use Rattle.rules.specs.declared.Found.the-variants.{At}
-use Rattle.demands.specs.Machine.{Typed}
+use Rattle.demands.specs.Machine.{CanCount, Typed, SoundSummary}
 use Rattle.demands.specs.Seen.{Seen}
 use Rattle.demands.specs.History.{Segment, Told, EachIn, after}
 use Rattle.demands.specs.Demand1.{Answered}
@@ -30,13 +30,14 @@ abbrev pub Early : ℕ → ℕ → List Segment → Type 0
 Early time ticks [] = Unit {0}
 Early time ticks (x ∷ l) = (x .time < 2 ^ 32) × (x .ticks ≤ ticks) × (elapsed time (x .time) ≡ ticks - x .ticks)
 
--- a state and a history match: the state is what the history tells, ages on the clock are true ages, and after an accepted opening the table is sound
+-- a state and a history match: the state is what the history tells, ages on the clock are true ages, after an accepted opening the table is sound, and after any the summary is
 pub record Matches (st : State) (h : Told) : Type 0 where
   pub typed : Typed (st .table)
   pub agrees : Agrees st h
   pub time : h .time < 2 ^ 32
   pub early : (k : Key) → Early (h .time) (h .ticks) (h .uncovered k)
   pub good : h .opened ≡ true → sound (st .table) ≡ true
+  pub summary : SoundSummary st
 
 -- demand 3, the timer, the release and soundness, by what was told; and the history goes on
 pub record Met (h : Told) (x : Seen) : Type 0 where
@@ -70,10 +71,10 @@ CanBeSent x = (k : ℕ) → k < countIn x → (a : Sender) × Sendable x a k
 
 -- demand 2 of one arrival: alone, the first of several, a later one
 pub record Arrives (y : Seen) (x : Shipment) : Type 0 where
-  pub alone : segmentedIn x ≡ false → Ready x (y .before) → (report : List ℕ) → recordLength ≤ length report → y .call ≡ arrivalOf x 0 report → Returns x y
-  pub first : segmentedIn x ≡ true → Ready x (y .before) → CanTake x (y .before) → (report : List ℕ) → recordLength ≤ length report → y .call ≡ arrivalOf x 0 report
+  pub alone : segmentedIn x ≡ false → Ready x (y .before) → CanCount (y .before) (y .call) → (report : List ℕ) → recordLength ≤ length report → y .call ≡ arrivalOf x 0 report → Returns x y
+  pub first : segmentedIn x ≡ true → Ready x (y .before) → CanTake x (y .before) → CanCount (y .before) (y .call) → (report : List ℕ) → recordLength ≤ length report → y .call ≡ arrivalOf x 0 report
       → BeginsAs (y .answer) (placeOf (keyIn x) (y .before .table .places)) (isAt (placeOf (keyIn x) (y .before .table .places))) × Underway x 1 (y .left)
-  pub later : segmentedIn x ≡ true → (j : ℕ) → 1 ≤ j → j < countIn x → Underway x j (y .before) → (report : List ℕ) → recordLength ≤ length report → y .call ≡ arrivalOf x j report
+  pub later : segmentedIn x ≡ true → (j : ℕ) → 1 ≤ j → j < countIn x → Underway x j (y .before) → CanCount (y .before) (y .call) → (report : List ℕ) → recordLength ≤ length report → y .call ≡ arrivalOf x j report
       → (suc j < countIn x → Saves (y .answer) × Underway x (suc j) (y .left)) × (suc j ≡ countIn x → Returns x y)
 
 -- demand 2 of a call: what is sent, what arrives, and what is spared

@@ -5,6 +5,7 @@ use mathlib.Core.Path.{_≡_}
 use mathlib.Core.List.{List}
 use lib.ListN.{length}
 use Rattle.rules.specs.Numbers.{placeCount, entriesMost, addressMost}
+use Rattle.rules.specs.Summary.{summaryLength}
 use Rattle.rules.specs.Calls.{State, Call, Opens, Arrives, Ticks, Releases, Sends, step}
 use Rattle.rules.specs.declared.Entry.{Entry}
 use Rattle.rules.specs.declared.Place.{Place}
@@ -44,6 +45,8 @@ pub record OfState (st : State) : Type 0 where
   pub registry : All OfEntry (st .table .registry)
   pub timer : Bits 32 (st .table .timer)
   pub clock : Bits 32 (st .table .clock)
+  pub size : length (st .summary) ≡ summaryLength
+  pub summary : All (Bits 64) (st .summary)
   pub store : Octets (st .store)
 
 pub record OfRequest (q : Request) : Type 0 where

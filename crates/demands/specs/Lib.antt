@@ -11,4 +11,5 @@ pub mod Follows
 pub mod Exactly
 pub mod Demanded
 pub mod Replayed
+pub mod Totals
 pub mod Wrong

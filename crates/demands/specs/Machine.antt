@@ -2,14 +2,13 @@
 use Prim.Native.Nat.{ℕ, _<_, _^_}
 use mathlib.Core.Path.{_≡_}
 use mathlib.Core.Bool.{Bool, true, false}
-use mathlib.Core.List.{List, [], _∷_}
+use mathlib.Core.List.{List, [], _∷_, _++_}
 use lib.ListN.{length}
 use Rattle.rules.specs.Numbers.{placeCount, addressMost}
-use Rattle.rules.specs.Refusals.{Check}
-use Rattle.rules.specs.Receiving.{segmentChecks}
+use Rattle.rules.specs.Refusals.{Check, accepted}
 use Rattle.rules.specs.Delivery.{delivery}
-use Rattle.rules.specs.Sweep.{clockChecks, releaseChecks}
 use Rattle.rules.specs.Opening.{openingChecks}
+use Rattle.rules.specs.Summary.{summaryLength, summarySound, rowChecks, totalChecks, segmentSums, segmentChecksWith, clockChecksWith, releaseChecksWith}
 use Rattle.rules.specs.Sending.{sendingChecks}
 use Rattle.rules.specs.Calls.{State, Call, Opens, Arrives, Ticks, Releases, Sends, Outcome, step}
 use Rattle.rules.specs.declared.Place.{Place}
@@ -27,10 +26,23 @@ ours = record { step = step; deliver = delivery }
 -- the checks of a call, in the paper's order
 abbrev pub checksOf : State → Call → List Check
 checksOf st (Opens x) = openingChecks (x .registry) (x .timer)
-checksOf st (Arrives x) = segmentChecks (st .table) (st .store) (x .report) (x .association) (x .parameter)
-checksOf st (Ticks x) = clockChecks (st .table) (x .report) (x .time)
-checksOf st (Releases x) = releaseChecks (st .table) (x .report)
+checksOf st (Arrives x) = segmentChecksWith (st .table) (st .summary) (st .store) (x .report) (x .association) (x .parameter)
+checksOf st (Ticks x) = clockChecksWith (st .table) (st .summary) (x .report) (x .time)
+checksOf st (Releases x) = releaseChecksWith (st .table) (st .summary) (x .report) (x .association)
 checksOf st (Sends x) = sendingChecks (st .table) (x .request) (x .origin) (x .destination) (x .whole) (x .area)
+
+-- the last of them, for an arrival: 21 and 22
+abbrev pub countingChecks : State → Call → List Check
+countingChecks st (Opens x) = []
+countingChecks st (Arrives x) =
+    rowChecks (st .summary) (x .association) ++ totalChecks (st .summary) (segmentSums (st .table) (st .summary) (st .store) (x .report) (x .association) (x .parameter))
+countingChecks st (Ticks x) = []
+countingChecks st (Releases x) = []
+countingChecks st (Sends x) = []
+
+-- neither applies: the summary can count it
+abbrev pub CanCount : State → Call → Type 0
+CanCount st c = accepted (countingChecks st c) ≡ true
 
 -- the parameter that a call hands over
 abbrev pub parameterOf : Call → List ℕ
@@ -68,3 +80,8 @@ pub record TypedPlace (p : Place) : Type 0 where
 pub record Typed (t : Table) : Type 0 where
   pub count : length (t .places) ≡ placeCount
   pub each : All TypedPlace (t .places)
+
+-- a summary of its type's length, sound beside the table's places
+pub record SoundSummary (st : State) : Type 0 where
+  pub size : length (st .summary) ≡ summaryLength
+  pub sound : summarySound (st .summary) (st .table .places) ≡ true

@@ -14,11 +14,12 @@ use Rattle.rules.specs.Records.{delivered, lost, recordOctets, recordsOctets}
 use Rattle.rules.specs.Layout.{isUnsegmented, fieldsOf, contextOctets, parameterOctets}
 use Rattle.rules.specs.Places.{freePlace, isOpen, isFree, sameOctets, firstFrom, placeOf, lowestFree, isAt, placeAt, putPlace}
 use Rattle.rules.specs.Receiving.{keyOf, informationOf, recordWith, openPlace, lineOf, Effect, effectOf, receptionOf}
-use Rattle.rules.specs.Sweep.{sweep}
+use Rattle.rules.specs.Sweep.{Sweeping, sweep}
+use Rattle.rules.specs.Summary.{counting, unusedRow, tally, tookAt, took, billed, segmentSums, sweepSums}
 use Rattle.rules.specs.Opening.{registryWith}
 use Rattle.rules.specs.Delivery.{delivery, partOfPlace}
 use Rattle.rules.specs.Sending.{headerLength, isSegmented, countOf, firstCarries, laterCarries, pieceOf, headingFor, carried, segmentOctets}
-use Rattle.rules.specs.Calls.{State, stateOf, Call, Opens, Arrives, Ticks, Releases, Sends, Arrival, Tick, Release, Dispatch, lending, As, Answer, answering, refusing}
+use Rattle.rules.specs.Calls.{State, stateOf, Call, Opens, Arrives, Ticks, Releases, Sends, Arrival, Tick, Release, Dispatch, lending, Decided, Undecided, As, Answer, answering, refusing}
 use Rattle.rules.specs.Calls.{Outcome, afterSegment, afterSweep, afterSending, step}
 use Rattle.rules.specs.declared.Key.{Key}
 use Rattle.rules.specs.declared.Fields.{Fields}
@@ -97,7 +98,7 @@ abbrev pub savesFirst : Machine
 savesFirst = stepping (onSegment (λ st x.
     let o : Outcome = step st (Arrives x) in
     if fieldsOf (st .table .registry) (x .parameter) .heading .new then o else
-    outcome (o .answer) (stateOf (o .state .table) (st .store))))
+    outcome (o .answer) (stateOf (o .state .table) (o .state .summary) (st .store))))
 
 -- an answer with these records at the front of its report
 abbrev reporting : Answer → List Record → Answer
@@ -177,7 +178,7 @@ recordsSending = stepping (onSending (λ st x.
 abbrev pub emptying : (Table → Table) → Machine
 emptying change = whereAccepted (onRelease (λ st x.
     let o : Outcome = step st (Releases x) in
-    if every isFree (o .state .table .places) then outcome (o .answer) (stateOf (change (o .state .table)) (o .state .store)) else o))
+    if every isFree (o .state .table .places) then outcome (o .answer) (stateOf (change (o .state .table)) (o .state .summary) (o .state .store)) else o))
 
 -- it clears the registry; T becomes 1; the clock goes back to 0
 abbrev pub clearsRegistry : Machine
@@ -262,7 +263,8 @@ joining find choose decide change = whereAccepted (onSegment (λ st x.
     let p : Place = placeAt (st .table .places) place in
     let line : Line = decide (isAt place) (p .remaining .0) (p .octets) (f .heading) (length octets) in
     let e : Effect = effectOf line (st .table) (st .store) key f octets place p (choose (st .table .places)) in
-    afterSegment (receptionOf (st .table) (x .report) (change line (st .table) f place p e))))
+    let m : List ℕ = segmentSums (st .table) (st .summary) (st .store) (x .report) (x .association) (x .parameter) in
+    afterSegment (counting m (receptionOf (st .table) (x .report) (change line (st .table) f place p e)))))
 
 abbrev pub unchanged : Changing
 unchanged line t f place p e = e
@@ -381,8 +383,86 @@ startsAnew = changing (λ line t f place p e.
 
 -- THE CLOCK'S CALLS, as the rules have them but for the test of what is due
 abbrev pub sweeping : (ℕ → ℕ → Place → Bool) → Machine
-sweeping due = whereAccepted (onClock (λ st x. afterSweep (st .store) (sweep (due (x .time) (st .table .timer)) 6 (x .time) (st .table) (x .report))))
+sweeping due = whereAccepted (onClock (λ st x.
+    let o : Sweeping = sweep (due (x .time) (st .table .timer)) 6 (x .time) (st .table) (x .report) in
+    afterSweep (st .store) (counting (sweepSums (st .summary) o) o)))
 
 -- an age is the new time less the old by plain subtraction, which the clock's turn makes 0
 abbrev pub subtractsPlainly : Machine
 subtractsPlainly = sweeping (λ time timer p. isOpen p && leb timer (time - p .start))
+
+-- THE SUMMARY, as the rules have it but for the numbers that a call leaves
+abbrev pub summing : (State → Call → Outcome → List ℕ) → Machine
+summing change = stepping (λ st c.
+    let o : Outcome = step st c in
+    outcome (o .answer) (stateOf (o .state .table) (change st c o) (o .state .store)))
+
+abbrev pub asSummed : State → Call → Outcome → List ℕ
+asSummed st c o = o .state .summary
+
+-- another summary after an arrival, a release or an opening
+abbrev onArrival : (State → Arrival → Outcome → List ℕ) → State → Call → Outcome → List ℕ
+onArrival f st (Opens x) o = o .state .summary
+onArrival f st (Arrives x) o = f st x o
+onArrival f st (Ticks x) o = o .state .summary
+onArrival f st (Releases x) o = o .state .summary
+onArrival f st (Sends x) o = o .state .summary
+
+abbrev onReleasing : (State → Release → Outcome → List ℕ) → State → Call → Outcome → List ℕ
+onReleasing f st (Opens x) o = o .state .summary
+onReleasing f st (Arrives x) o = o .state .summary
+onReleasing f st (Ticks x) o = o .state .summary
+onReleasing f st (Releases x) o = f st x o
+onReleasing f st (Sends x) o = o .state .summary
+
+abbrev onOpening : (State → Outcome → List ℕ) → State → Call → Outcome → List ℕ
+onOpening f st (Opens x) o = f st o
+onOpening f st (Arrives x) o = o .state .summary
+onOpening f st (Ticks x) o = o .state .summary
+onOpening f st (Releases x) o = o .state .summary
+onOpening f st (Sends x) o = o .state .summary
+
+-- a refused segment is taken
+abbrev pub countsRefused : Machine
+countsRefused = summing (onArrival (λ st x o. if eqb (o .answer .refusal) 0 then o .state .summary else took (st .summary) (x .association) 0))
+
+-- a restart's loss covers the segment that restarts
+abbrev isLost3 : Decided → Bool
+isLost3 Undecided = false
+isLost3 (As Refused) = false
+isLost3 (As (Saved p)) = false
+isLost3 (As (Delivered part)) = false
+isLost3 (As (Lost cause p)) = eqb cause 3
+
+abbrev pub billsRestart : Machine
+billsRestart = summing (onArrival (λ st x o. if isLost3 (o .answer .decided) then tally (o .state .summary) 6 0 1 0 else o .state .summary))
+
+-- what a release loses is not billed
+abbrev pub forgetsReleases : Machine
+forgetsReleases = summing (onReleasing (λ st x o. st .summary))
+
+-- an opening keeps the rows
+abbrev pub keepsRows : Machine
+keepsRows = summing (onOpening (λ st o. st .summary))
+
+-- each segment gets the lowest unused row, whether its association has one or not
+abbrev pub givesSecond : Machine
+givesSecond = summing (onArrival (λ st x o.
+    if eqb (o .answer .refusal) 0 then
+    tookAt (st .summary) (unusedRow (st .summary)) (x .association) (length (informationOf (x .parameter) (fieldsOf (st .table .registry) (x .parameter)))) else st .summary))
+
+-- the octets of the parameter are taken, and not those of the information
+abbrev pub takesParameter : Machine
+takesParameter = summing (onArrival (λ st x o.
+    if eqb (o .answer .refusal) 0 then billed (took (st .summary) (x .association) (length (x .parameter))) (recordsIn (o .answer)) else st .summary))
+
+-- what is lost at once, with no sequence open, is not counted
+abbrev isStray : Decided → Bool
+isStray Undecided = false
+isStray (As Refused) = false
+isStray (As (Saved p)) = false
+isStray (As (Delivered part)) = false
+isStray (As (Lost cause p)) = not (isAt p)
+
+abbrev pub missesStrays : Machine
+missesStrays = summing (onArrival (λ st x o. if isStray (o .answer .decided) then st .summary else o .state .summary))

@@ -18,26 +18,32 @@ pub struct CReceived {
     pub records: u8,
 }
 
-// Opens a table from registry octets, T and the clock.
+// Opens a table from registry octets, T and the clock, and empties the summary.
 #[no_mangle]
-pub extern "C" fn egrynnol_1_opening(registry: &[u8], timer: u32, clock: u32) -> Opened
-    ensures { λ r. ⌜ OfOpening (now (registry .entry)) timer clock r ⌝ }
+pub extern "C" fn egrynnol_2_opening(
+    m: &mut [u64; rules::SUMMARY],
+    registry: &[u8],
+    timer: u32,
+    clock: u32,
+) -> Opened
+    ensures { λ r. ⌜ OfOpening (now (registry .entry)) timer clock r (now (m .exit)) ⌝ }
 {
-    opening::opening(registry, timer, clock)
+    opening::opening(m, registry, timer, clock)
 }
 
 // A segment arrives.
 #[no_mangle]
-pub extern "C" fn egrynnol_1_segment(
+pub extern "C" fn egrynnol_2_segment(
     t: Table,
+    m: &mut [u64; rules::SUMMARY],
     store: &mut [u8],
     report: &mut [u8],
     association: u16,
     s: &[u8],
 ) -> CReceived
-    ensures { λ r. ⌜ HostSegment t (now (store .entry)) (now (report .entry)) association (now (s .entry)) r (now (store .exit)) (now (report .exit)) ⌝ }
+    ensures { λ r. ⌜ HostSegment t (now (m .entry)) (now (store .entry)) (now (report .entry)) association (now (s .entry)) r (now (m .exit)) (now (store .exit)) (now (report .exit)) ⌝ }
 {
-    let r = receiver::segment(t, store, report, association, s);
+    let r = receiver::segment(t, m, store, report, association, s);
     let table = r.table;
     let decision = r.decision;
     CReceived {
@@ -50,23 +56,33 @@ pub extern "C" fn egrynnol_1_segment(
 
 // The clock goes on.
 #[no_mangle]
-pub extern "C" fn egrynnol_1_clock(t: Table, report: &mut [u8], time: u32) -> Swept
-    ensures { λ r. ⌜ OfClock t (now (report .entry)) time r (now (report .exit)) ⌝ }
+pub extern "C" fn egrynnol_2_clock(
+    t: Table,
+    m: &mut [u64; rules::SUMMARY],
+    report: &mut [u8],
+    time: u32,
+) -> Swept
+    ensures { λ r. ⌜ OfClock t (now (m .entry)) (now (report .entry)) time r (now (m .exit)) (now (report .exit)) ⌝ }
 {
-    receiver::clock(t, report, time)
+    receiver::clock(t, m, report, time)
 }
 
 // An association is released.
 #[no_mangle]
-pub extern "C" fn egrynnol_1_release(t: Table, report: &mut [u8], association: u16) -> Swept
-    ensures { λ r. ⌜ OfRelease t (now (report .entry)) association r (now (report .exit)) ⌝ }
+pub extern "C" fn egrynnol_2_release(
+    t: Table,
+    m: &mut [u64; rules::SUMMARY],
+    report: &mut [u8],
+    association: u16,
+) -> Swept
+    ensures { λ r. ⌜ OfRelease t (now (m .entry)) (now (report .entry)) association r (now (m .exit)) (now (report .exit)) ⌝ }
 {
-    receiver::release(t, report, association)
+    receiver::release(t, m, report, association)
 }
 
 // Where the octets are that a segment delivered.
 #[no_mangle]
-pub extern "C" fn egrynnol_1_delivery<'a>(
+pub extern "C" fn egrynnol_2_delivery<'a>(
     decision: CDecision,
     s: &'a [u8],
     store: &'a [u8],
@@ -80,7 +96,7 @@ pub extern "C" fn egrynnol_1_delivery<'a>(
 
 // Writes one segment of the data.
 #[no_mangle]
-pub extern "C" fn egrynnol_1_sending(
+pub extern "C" fn egrynnol_2_sending(
     t: Table,
     q: Request,
     origin: &[u8],

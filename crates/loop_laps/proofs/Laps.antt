@@ -5,7 +5,8 @@ use mathlib.Core.List.{List, []}
 use native.Mathlib.Omega.{arith}
 use native.Mathlib.Numerals.{add-one}
 use lib.ListN.{take}
-use Rattle.rules.specs.Receiving.{Reception, segment}
+use Rattle.rules.specs.Receiving.{Reception}
+use Rattle.rules.specs.Summary.{Counted, segmentWith}
 use Rattle.rules.specs.Sending.{sending}
 use Rattle.rules.specs.Calls.{State, stateOf, Lent, lending}
 use Rattle.rules.specs.Promises.{OfSegment, OfSending}
@@ -18,31 +19,32 @@ use Rattle.loop_laps.specs.Laps.{Asked, Lap, lap, laps, standing, lapOf,
 use Rattle.loop_laps.specs.declared.Looped.{Looped}
 
 -- a segment that is a part of the area
-pub receipt : (t : Table) (store report : List ℕ) (association : ℕ) (s s′ : List ℕ) (n : ℕ) (r : Received) (store′ report′ : List ℕ)
-    → OfSegment t store report association s r store′ report′ → s ≡ s′
-    → OfReceipt (segment t store report association s′) n (record { table = r .table; decision = r .decision; length = n; number = 0 }) store′ (lending report′ [])
-receipt t store report association s s′ n r store′ report′ k e =
+pub receipt : (t : Table) (m store report : List ℕ) (association : ℕ) (s s′ : List ℕ) (n : ℕ) (r : Received) (m′ store′ report′ : List ℕ)
+    → OfSegment t m store report association s r m′ store′ report′ → s ≡ s′
+    → OfReceipt (segmentWith t m store report association s′) n (record { table = r .table; decision = r .decision; length = n; number = 0 }) m′ store′ (lending report′ [])
+receipt t m store report association s s′ n r m′ store′ report′ k e =
     record {
       answered = (λ i. record { table = k .answered i .table; decision = k .answered i .decision; length = n; number = 0 })
-          ∙ (λ i. received (segment t store report association (e i)) n);
-      stored = k .stored ∙ (λ i. segment t store report association (e i) .store);
-      lent = (λ i. lending (k .reported i) []) ∙ (λ i. lending (segment t store report association (e i) .report) []);
+          ∙ (λ i. received (segmentWith t m store report association (e i) .call) n);
+      summed = k .summed ∙ (λ i. segmentWith t m store report association (e i) .summary);
+      stored = k .stored ∙ (λ i. segmentWith t m store report association (e i) .call .store);
+      lent = (λ i. lending (k .reported i) []) ∙ (λ i. lending (segmentWith t m store report association (e i) .call .report) []);
     }
 
 module _ (x : Asked) (k : ℕ) (st : State) (lent : Lent) where
   cut : ℕ → List ℕ → Lap
   cut n area =
-      let r : Reception = segment (st .table) (st .store) (lent .report) (x .association) (take n area) in
-      record { state = stateOf (r .answer .table) (r .store); lent = lending (r .report) area; decision = r .answer .decision; length = n }
+      let r : Counted Reception = segmentWith (st .table) (st .summary) (st .store) (lent .report) (x .association) (take n area) in
+      record { state = stateOf (r .call .answer .table) (r .summary) (r .call .store); lent = lending (r .call .report) area; decision = r .call .answer .decision; length = n }
 
-  pub one-lap : (area′ : List ℕ) (q : Request) (s : Sent) (answer : Looped) (store′ : List ℕ) (lent′ : Lent) → q ≡ numbered (x .request) k
+  pub one-lap : (area′ : List ℕ) (q : Request) (s : Sent) (answer : Looped) (m′ store′ : List ℕ) (lent′ : Lent) → q ≡ numbered (x .request) k
       → OfSending (x .table) q (x .origin) (x .destination) (x .whole) (lent .area) s area′
-      → OfReceipt (segment (st .table) (st .store) (lent .report) (x .association) (take (s .length) area′)) (s .length) answer store′ lent′
-      → OfLap (lap x k (standing st lent)) answer store′ (lending (lent′ .report) area′)
+      → OfReceipt (segmentWith (st .table) (st .summary) (st .store) (lent .report) (x .association) (take (s .length) area′)) (s .length) answer m′ store′ lent′
+      → OfLap (lap x k (standing st lent)) answer m′ store′ (lending (lent′ .report) area′)
   unfolding cut
-  one-lap area′ q s answer store′ lent′ e sent got =
+  one-lap area′ q s answer m′ store′ lent′ e sent got =
       record {
-        lapped = (λ i. lapOf (got .answered i) (got .stored i) (lending (got .lent i .report) area′))
+        lapped = (λ i. lapOf (got .answered i) (got .summed i) (got .stored i) (lending (got .lent i .report) area′))
             ∙ (λ i. cut (sent .answered i .length) (sent .written i))
             ∙ (λ i. cut (sending (x .table) (e i) (x .origin) (x .destination) (x .whole) (lent .area) .answer .length) (sending (x .table) (e i) (x .origin) (x .destination) (x .whole) (lent .area) .area));
         number = λ i. got .answered i .number;

@@ -3,7 +3,8 @@ use Prim.Native.Nat.{ℕ, zero, suc}
 use mathlib.Core.Path.{_≡_}
 use mathlib.Core.List.{List, []}
 use lib.ListN.{take}
-use Rattle.rules.specs.Receiving.{Reception, segment}
+use Rattle.rules.specs.Receiving.{Reception}
+use Rattle.rules.specs.Summary.{Counted, segmentWith}
 use Rattle.rules.specs.Sending.{Sending, sending}
 use Rattle.rules.specs.Calls.{State, stateOf, Lent, lending}
 use Rattle.rules.specs.declared.Table.{Table}
@@ -25,7 +26,7 @@ pub record Asked : Type 0 where
 abbrev pub asked : Table → Request → ℕ → List ℕ → List ℕ → List ℕ → Asked
 asked t q association o d whole = record { table = t; request = q; association = association; origin = o; destination = d; whole = whole }
 
--- what there is between two segments: the receiver's table and store, the areas lent beside them, and of the last one its decision and its length
+-- what there is between two segments: the receiver's table, summary and store, the areas lent beside them, and of the last one its decision and its length
 pub record Lap : Type 0 where
   pub state : State
   pub lent : Lent
@@ -36,8 +37,14 @@ pub record Lap : Type 0 where
 abbrev pub lap : Asked → ℕ → Lap → Lap
 lap x k l =
     let o : Sending = sending (x .table) (numbered (x .request) k) (x .origin) (x .destination) (x .whole) (l .lent .area) in
-    let r : Reception = segment (l .state .table) (l .state .store) (l .lent .report) (x .association) (take (o .answer .length) (o .area)) in
-    record { state = stateOf (r .answer .table) (r .store); lent = lending (r .report) (o .area); decision = r .answer .decision; length = o .answer .length }
+    let r : Counted Reception
+    = segmentWith (l .state .table) (l .state .summary) (l .state .store) (l .lent .report) (x .association) (take (o .answer .length) (o .area)) in
+    record {
+      state = stateOf (r .call .answer .table) (r .summary) (r .call .store);
+      lent = lending (r .call .report) (o .area);
+      decision = r .call .answer .decision;
+      length = o .answer .length;
+    }
 
 -- n segments from segment k on
 unfoldable pub laps : ℕ → ℕ → Asked → Lap → Lap
@@ -48,18 +55,19 @@ abbrev pub standing : State → Lent → Lap
 standing st lent = record { state = st; lent = lent; decision = Refused; length = 0 }
 
 -- a lap, and one segment's receipt, as the code answers them
-abbrev pub lapOf : Looped → List ℕ → Lent → Lap
-lapOf l store lent = record { state = stateOf (l .table) store; lent = lent; decision = l .decision; length = l .length }
+abbrev pub lapOf : Looped → List ℕ → List ℕ → Lent → Lap
+lapOf l m store lent = record { state = stateOf (l .table) m store; lent = lent; decision = l .decision; length = l .length }
 
-pub record OfLap (want : Lap) (answer : Looped) (store′ : List ℕ) (lent′ : Lent) : Type 0 where
-  pub lapped : lapOf answer store′ lent′ ≡ want
+pub record OfLap (want : Lap) (answer : Looped) (m′ store′ : List ℕ) (lent′ : Lent) : Type 0 where
+  pub lapped : lapOf answer m′ store′ lent′ ≡ want
   pub number : answer .number ≡ 0
 
 abbrev pub received : Reception → ℕ → Looped
 received r n = record { table = r .answer .table; decision = r .answer .decision; length = n; number = 0 }
 
 -- the area is only read here, so none is lent
-pub record OfReceipt (want : Reception) (n : ℕ) (answer : Looped) (store′ : List ℕ) (lent′ : Lent) : Type 0 where
-  pub answered : answer ≡ received want n
-  pub stored : store′ ≡ want .store
-  pub lent : lent′ ≡ lending (want .report) []
+pub record OfReceipt (want : Counted Reception) (n : ℕ) (answer : Looped) (m′ store′ : List ℕ) (lent′ : Lent) : Type 0 where
+  pub answered : answer ≡ received (want .call) n
+  pub summed : m′ ≡ want .summary
+  pub stored : store′ ≡ want .call .store
+  pub lent : lent′ ≡ lending (want .call .report) []

@@ -6,7 +6,7 @@ ghost use mathlib.Core.Path.{_≡_};
 ghost use mathlib.Core.List.{[]};
 ghost use lib.ListN.{take};
 ghost use Prim.Native.Nat.{_-_, _≤_};
-ghost use Rattle.rules.specs.Receiving.{segment};
+ghost use Rattle.rules.specs.Summary.{segmentWith};
 ghost use Rattle.rules.specs.Calls.{stateOf, lending};
 ghost use Rattle.demands.specs.Demand2.{numbered};
 ghost use Rattle.loop_laps.specs.Laps.{asked, standing, lap, laps, lapOf, OfLap, OfReceipt};
@@ -49,13 +49,15 @@ pub fn receive(
     association: u16,
     n: u16,
     area: &[u8],
+    m: &mut [u64; rules::SUMMARY],
     store: &mut [u8],
     report: &mut [u8],
 ) -> Looped
-    ensures { λ r. ⌜ OfReceipt (segment t (now (store .entry)) (now (report .entry)) association (take n (now (area .entry)))) n r (now (store .exit)) (lending (now (report .exit)) []) ⌝ }
+    ensures { λ r. ⌜ OfReceipt (segmentWith t (now (m .entry)) (now (store .entry)) (now (report .entry)) association (take n (now (area .entry)))) n r (now (m .exit)) (now (store .exit)) (lending (now (report .exit)) []) ⌝ }
 {
     let r = receiver::segment(
         t,
+        m,
         store,
         report,
         association,
@@ -80,15 +82,16 @@ fn one(
     destination: &[u8],
     whole: &[u8],
     area: &mut [u8],
+    m: &mut [u64; rules::SUMMARY],
     store: &mut [u8],
     report: &mut [u8],
 ) -> Looped
-    ensures { λ r. ⌜ OfLap (lap (asked (c .table) (c .request) (c .association) (now (origin .entry)) (now (destination .entry)) (now (whole .entry))) k (standing (stateOf t (now (store .entry))) (lending (now (report .entry)) (now (area .entry))))) r (now (store .exit)) (lending (now (report .exit)) (now (area .exit))) ⌝ }
+    ensures { λ r. ⌜ OfLap (lap (asked (c .table) (c .request) (c .association) (now (origin .entry)) (now (destination .entry)) (now (whole .entry))) k (standing (stateOf t (now (m .entry)) (now (store .entry))) (lending (now (report .entry)) (now (area .entry))))) r (now (m .exit)) (now (store .exit)) (lending (now (report .exit)) (now (area .exit))) ⌝ }
 {
     let sender = c.table;
     let q = c.request;
     let s = sender::sending(sender, for_segment(q, k), origin, destination, whole, area);
-    receive(t, c.association, s.length, area, store, report)
+    receive(t, c.association, s.length, area, m, store, report)
 }
 
 // The segments after the first.
@@ -100,18 +103,19 @@ pub fn others(
     destination: &[u8],
     whole: &[u8],
     area: &mut [u8],
+    m: &mut [u64; rules::SUMMARY],
     store: &mut [u8],
     report: &mut [u8],
 ) -> Looped
     requires { ⌜ (1 ≤ count) × (first .number ≡ 0) ⌝ }
-    ensures { λ r. ⌜ OfLap (laps (count - 1) 1 (asked (c .table) (c .request) (c .association) (now (origin .entry)) (now (destination .entry)) (now (whole .entry))) (lapOf first (now (store .entry)) (lending (now (report .entry)) (now (area .entry))))) r (now (store .exit)) (lending (now (report .exit)) (now (area .exit))) ⌝ }
+    ensures { λ r. ⌜ OfLap (laps (count - 1) 1 (asked (c .table) (c .request) (c .association) (now (origin .entry)) (now (destination .entry)) (now (whole .entry))) (lapOf first (now (m .entry)) (now (store .entry)) (lending (now (report .entry)) (now (area .entry))))) r (now (m .exit)) (now (store .exit)) (lending (now (report .exit)) (now (area .exit))) ⌝ }
 {
     let end = count as usize;
     let mut l = first;
     let mut k = 1;
     while k < end {
         let t = l.table;
-        l = one(c, k, t, origin, destination, whole, area, store, report);
+        l = one(c, k, t, origin, destination, whole, area, m, store, report);
         k += 1;
     }
     l

@@ -13,8 +13,9 @@ use Rattle.rules.specs.Refusals.{Check, accepted, first, judged}
 use Rattle.rules.specs.Records.{recordLength}
 use Rattle.rules.specs.Places.{lowestFree, placeOf, isAt}
 use Rattle.rules.specs.Soundness.{sound}
+use Rattle.rules.specs.Summary.{rowFor, summarySound, segmentWith}
 use Rattle.rules.specs.Delivery.{delivery}
-use Rattle.rules.specs.Receiving.{Reception, segment}
+use Rattle.rules.specs.Receiving.{Reception}
 use Rattle.rules.specs.Sending.{sendingChecks, sending}
 use Rattle.rules.specs.Sending as rule
 use Rattle.rules.specs.Calls.{State, stateOf, toArrive, Lent, lending, Answer, step}
@@ -26,21 +27,22 @@ use Rattle.rules.specs.declared.Decision.the-variants.{Refused}
 use Rattle.rules.proofs.Refusals.{Sharp, judged-append, judged-by, judged-first, judged-none, accepted-both, first-accepted, accepted-first}
 use Rattle.rules.proofs.Answers.{segment-by}
 use Rattle.rules.proofs.Cutting.{cuttable, within-room, count-two, later-carries, first-leaves}
-use Rattle.demands.specs.Machine.{ours, Typed}
+use Rattle.demands.specs.Machine.{ours, CanCount, Typed, SoundSummary}
 use Rattle.demands.specs.Seen.{seenBy}
 use Rattle.demands.specs.Demand2.{Shipment, numbered, header, countIn, segmentedIn, segmentOf, Sender, Sendable, keyIn, arrivalOf, Meanwhile, stop, mine, other, Returns, CanTake, RoundTrip}
 use Rattle.demands.proofs.Index.{demand-2}
 use Rattle.loop_laps.specs.Laps.{Asked, Lap, lap, laps, standing, lapOf, OfLap, OfReceipt}
 use Rattle.loop_laps.specs.declared.Looped.{Looped}
 use Rattle.loop_laps.proofs.Laps.{one-lap}
-use Rattle.loopback.specs.Loopback.{shipmentIn, fitChecks, loopChecks, Looping, looping, OfLoopback}
+use Rattle.loopback.specs.Loopback.{shipmentIn, isRoomy, fitChecks, loopChecks, Looping, looping, OfLoopback}
+use Rattle.loopback.proofs.Room.{Countable, counts-on, can-count}
 
 -- no check has the number 0
 some : (n : ℕ) → suc n ≡ 0 → ⊥
 some n e = omega (arith, e)
 
-fit-sharp : (t : Table) (store report area : ℕ) → Sharp (fitChecks t store report area)
-fit-sharp t store report area = (some 0, (some 1, (some 2, (some 19, (some 9, tt)))))
+fit-sharp : (t : Table) (m : List ℕ) (association store report area : ℕ) → Sharp (fitChecks t m association store report area)
+fit-sharp t m association store report area = (some 0, (some 0, (some 1, (some 2, (some 19, (some 9, (some 20, (some 21, tt))))))))
 
 sending-sharp : (t : Table) (q : Request) (o d whole area : List ℕ) → Sharp (sendingChecks t q o d whole area)
 unfolding sendingChecks
@@ -73,24 +75,24 @@ sending-length t q o d whole area =
     judged-by (λ (r : rule.Sending). length (r .area) ≡ length area) (sendingChecks t q o d whole area)
     (λ n. record { answer = record { refusal = n; count = 0; length = 0 }; area = area }) _ (λ e. splice-length area 0 _) (λ e. refl)
 
-report-length : (t : Table) (store report : List ℕ) (association : ℕ) (s : List ℕ) → length (segment t store report association s .report) ≡ length report
-report-length t store report association s =
-    segment-by (λ (r : Reception). length (r .report) ≡ length report) t store report association s (λ e. splice-length report 0 _) (λ e. refl)
+report-length : (t : Table) (m store report : List ℕ) (association : ℕ) (s : List ℕ) → length (segmentWith t m store report association s .call .report) ≡ length report
+report-length t m store report association s =
+    segment-by t m store report association s (λ (r : Reception). length (r .report) ≡ length report) (λ e. splice-length report 0 _) (λ e. refl)
 
 -- segments that arrive one after the other
 more : {x : Shipment} {st st′ : State} {i j : ℕ} → Meanwhile ours x st i st′ j → (report : List ℕ) → recordLength ≤ length report
-    → Meanwhile ours x st i (step st′ (arrivalOf x j report) .state) (suc j)
-more stop report room = mine report room stop
-more (mine again wide rest) report room = mine again wide (more rest report room)
-more (other c range spares rest) report room = other c range spares (more rest report room)
+    → CanCount st′ (arrivalOf x j report) → Meanwhile ours x st i (step st′ (arrivalOf x j report) .state) (suc j)
+more stop report room counts = mine report room counts stop
+more (mine again wide counted rest) report room counts = mine again wide counted (more rest report room counts)
+more (other c range spares rest) report room counts = other c range spares (more rest report room counts)
 
-module _ (x : Asked) (store : List ℕ) (lent : Lent) where
+module _ (x : Asked) (m store : List ℕ) (lent : Lent) where
   -- what goes out
   abbrev out : Shipment
   out = shipmentIn x
 
   abbrev start : Lap
-  start = standing (stateOf (x .table) store) lent
+  start = standing (stateOf (x .table) m store) lent
 
   -- the delivery after a lap
   abbrev handed : Lap → List ℕ
@@ -114,36 +116,42 @@ module _ (x : Asked) (store : List ℕ) (lent : Lent) where
   report-at : (k : ℕ) → length (at k .lent .report) ≡ length (lent .report)
   unfolding at
   report-at zero = refl
-  report-at (suc k) = report-length (at k .state .table) (at k .state .store) (at k .lent .report) (x .association) _ ∙ report-at k
+  report-at (suc k) = report-length (at k .state .table) (at k .state .summary) (at k .state .store) (at k .lent .report) (x .association) _ ∙ report-at k
 
-  -- segment k is sent from the table as it came, which needs no store
+  -- segment k is sent from the table as it came, which needs no summary and no store
   abbrev from : ℕ → Sender
-  from k = record { state = stateOf (x .table) []; area = at k .lent .area }
+  from k = record { state = stateOf (x .table) [] []; area = at k .lent .area }
 
-  module _ (ok : accepted (loopChecks x store lent) ≡ true) (typed : Typed (x .table)) (carrier : x .association < 2 ^ 16) where
-    both : (accepted (fitChecks (x .table) (length store) (length (lent .report)) (length (lent .area))) ≡ true)
+  module _ (ok : accepted (loopChecks x m store lent) ≡ true) (long : length m ≡ 512) (typed : Typed (x .table)) (carrier : x .association < 2 ^ 16) where
+    both : (accepted (fitChecks (x .table) m (x .association) (length store) (length (lent .report)) (length (lent .area))) ≡ true)
         × (accepted (sendingChecks (x .table) (numbered (x .request) 0) (x .origin) (x .destination) (x .whole) (lent .area)) ≡ true)
     unfolding loopChecks
     both =
-        accepted-both (fitChecks (x .table) (length store) (length (lent .report)) (length (lent .area)))
+        accepted-both (fitChecks (x .table) m (x .association) (length store) (length (lent .report)) (length (lent .area)))
         (sendingChecks (x .table) (numbered (x .request) 0) (x .origin) (x .destination) (x .whole) (lent .area)) ok
 
     record Fit : Type 0 where
+      summed : summarySound m (x .table .places) ≡ true
       good : sound (x .table) ≡ true
       stores : storeLeast ≤ length store
       reports : recordLength ≤ length (lent .report)
       wide : parameterMost ≤ length (lent .area)
       free : isAt (lowestFree (x .table .places)) ≡ true
+      row : isAt (rowFor m (x .association)) ≡ true
+      roomy : isRoomy m ≡ true
 
     fit : Fit
     fit =
         let all = simp and-eq-true-iff at (both .0) in
         record {
-          good = not-false _ (not-true _ (all .0));
-          stores = ltb-false _ _ (not-true _ (all .1 .0));
-          reports = ltb-false _ _ (not-true _ (all .1 .1 .0));
-          wide = ltb-false _ _ (not-true _ (all .1 .1 .1 .0));
-          free = not-false _ (not-true _ (all .1 .1 .1 .1 .0));
+          summed = not-false _ (not-true _ (all .0));
+          good = not-false _ (not-true _ (all .1 .0));
+          stores = ltb-false _ _ (not-true _ (all .1 .1 .0));
+          reports = ltb-false _ _ (not-true _ (all .1 .1 .1 .0));
+          wide = ltb-false _ _ (not-true _ (all .1 .1 .1 .1 .0));
+          free = not-false _ (not-true _ (all .1 .1 .1 .1 .1 .0));
+          row = not-false _ (not-true _ (all .1 .1 .1 .1 .1 .1 .0));
+          roomy = not-false _ (not-true _ (all .1 .1 .1 .1 .1 .1 .1 .0));
         }
 
     fits-at : (k : ℕ) → k < countIn out → length (segmentOf out k) ≤ length (at k .lent .area)
@@ -165,22 +173,42 @@ module _ (x : Asked) (store : List ℕ) (lent : Lent) where
     unfolding step at
     state-is k under = ap (λ (p : List ℕ). step (at k .state) (toArrive (x .association) p (at k .lent .report)) .state) (sym (sent-is k under))
 
+    summary-first : SoundSummary (at 0 .state)
+    unfolding at
+    summary-first = record { size = long; sound = fit .summed }
+
+    short : (k : ℕ) → k < countIn out → length (segmentOf out k) ≤ 255
+    short k under = segment-most x (lent .area) (both .1) k under
+
+    countable : (k : ℕ) → k ≤ countIn out → Countable (x .association) m k (at k .state)
+    unfolding at
+    countable zero under = record { table = fit .good; summary = summary-first; row = fit .row; totals = λ i. omega arith }
+    countable (suc k) under =
+        subst (λ (st : State). Countable (x .association) m (suc k) st) (state-is k (omega arith))
+        (counts-on (x .association) m k (at k .state) (countable k (omega arith)) (segmentOf out k) (at k .lent .report) (short k (omega arith)) carrier)
+
+    -- each can be counted
+    counted : (k : ℕ) → k < countIn out → CanCount (at k .state) (arrivalOf out k (at k .lent .report))
+    counted k under =
+        let few = within-room _ _ _ _ _ _ (both .1) .count in
+        can-count (x .association) m k (at k .state) (countable k (omega arith)) (segmentOf out k) (at k .lent .report) (short k under) (fit .roomy) (omega arith)
+
     trip : RoundTrip ours out (at 0 .state) (lent .report)
     unfolding at
     trip =
-        demand-2 .back out from can (at 0 .state) (record { sound = fit .good; typed = typed; kind = refl; store = fit .stores; carrier = carrier })
+        demand-2 .back out from can (at 0 .state) (record { sound = fit .good; typed = typed; kind = refl; store = fit .stores; summary = summary-first; carrier = carrier })
         (lent .report) (fit .reports)
 
     meanwhile : (j : ℕ) → j < countIn out → Meanwhile ours out (step (at 0 .state) (arrivalOf out 0 (lent .report)) .state) 1 (at (suc j) .state) (suc j)
     unfolding at
     meanwhile zero under = rw (sym (state-is 0 under)) stop
     meanwhile (suc j) under =
-        rw (sym (state-is (suc j) under)) (more (meanwhile j (omega arith)) (at (suc j) .lent .report) (rw (report-at (suc j)) (fit .reports)))
+        rw (sym (state-is (suc j) under)) (more (meanwhile j (omega arith)) (at (suc j) .lent .report) (rw (report-at (suc j)) (fit .reports)) (counted (suc j) under))
 
     last-hands : (j : ℕ) → suc j ≡ countIn out → Returns out (seenBy ours (at j .state) (arrivalOf out j (at j .lent .report))) → handed (at (countIn out)) ≡ x .whole
     unfolding step at
     last-hands j e r =
-        let got : List ℕ → Reception = λ p. segment (at j .state .table) (at j .state .store) (at j .lent .report) (x .association) p in
+        let got : List ℕ → Reception = λ p. segmentWith (at j .state .table) (at j .state .summary) (at j .state .store) (at j .lent .report) (x .association) p .call in
         subst (λ (n : ℕ). handed (at n) ≡ x .whole) e
         (ap (λ (p : List ℕ). delivery (got p .answer .decision) p (got p .store)) (sent-is j (omega arith)) ∙ r .handed)
 
@@ -194,20 +222,22 @@ module _ (x : Asked) (store : List ℕ) (lent : Lent) where
 
     back-by : (b : Bool) → segmentedIn out ≡ b → handed (at (countIn out)) ≡ x .whole
     unfolding at
-    back-by false e = last-hands 0 (sym (simp e)) (trip .alone e)
+    back-by false e =
+        let one : suc 0 ≡ countIn out = sym (simp e) in
+        last-hands 0 one (trip .alone e (counted 0 (omega arith)))
     back-by true e =
         let two = two-least e in
         let j : ℕ = countIn out - 2 in
         let last : suc (suc j) ≡ countIn out = omega arith in
         last-hands (suc j) last
-        (trip .later e free-first (suc j) (omega arith) (at (suc j) .state) (meanwhile j (omega arith)) (at (suc j) .lent .report) (rw (report-at (suc j)) (fit .reports)) .1 last)
+        (trip .later e free-first (counted 0 (omega arith)) (suc j) (omega arith) (at (suc j) .state) (meanwhile j (omega arith)) (at (suc j) .lent .report) (rw (report-at (suc j)) (fit .reports)) (counted (suc j) (omega arith)) .1 last)
 
     pub back : handed (laps (countIn out) 0 x start) ≡ x .whole
     unfolding at
     back = ap handed (laps-at (countIn out) 0) ∙ rw zero-add (back-by (segmentedIn out) refl)
 
   abbrev fits : List Check
-  fits = fitChecks (x .table) (length store) (length (lent .report)) (length (lent .area))
+  fits = fitChecks (x .table) m (x .association) (length store) (length (lent .report)) (length (lent .area))
 
   abbrev sends : List Check
   sends = sendingChecks (x .table) (numbered (x .request) 0) (x .origin) (x .destination) (x .whole) (lent .area)
@@ -219,13 +249,13 @@ module _ (x : Asked) (store : List ℕ) (lent : Lent) where
   unmoved n = record { number = n; lap = start }
 
   -- refused by a condition on table and areas, or by the sender; or carried out
-  pub looping-unfit : (n : ℕ) → n ≡ first fits → (n ≡ 0 → ⊥) → looping x store lent ≡ unmoved n
+  pub looping-unfit : (n : ℕ) → n ≡ first fits → (n ≡ 0 → ⊥) → looping x m store lent ≡ unmoved n
   unfolding looping loopChecks
   looping-unfit n e nonzero = judged-append fits sends unmoved _ ∙ judged-first fits unmoved _ (λ z. nonzero (e ∙ z)) ∙ rw (sym e)
 
-  looping-fit : first fits ≡ 0 → looping x store lent ≡ judged sends unmoved (record { number = 0; lap = laps (countIn out) 0 x start })
+  looping-fit : first fits ≡ 0 → looping x m store lent ≡ judged sends unmoved (record { number = 0; lap = laps (countIn out) 0 x start })
   unfolding looping loopChecks
-  looping-fit e = judged-append fits sends unmoved _ ∙ judged-none fits unmoved _ (fit-sharp (x .table) (length store) (length (lent .report)) (length (lent .area))) e
+  looping-fit e = judged-append fits sends unmoved _ ∙ judged-none fits unmoved _ (fit-sharp (x .table) m (x .association) (length store) (length (lent .report)) (length (lent .area))) e
 
   unsent : (n : ℕ) → n ≡ sent .answer .refusal → (n ≡ 0 → ⊥) → (sent .area ≡ lent .area) × (n ≡ first sends)
   unfolding sending
@@ -233,7 +263,7 @@ module _ (x : Asked) (store : List ℕ) (lent : Lent) where
       judged-by (λ (o : rule.Sending). n ≡ o .answer .refusal → (o .area ≡ lent .area) × (n ≡ first sends)) sends
       (λ n. record { answer = record { refusal = n; count = 0; length = 0 }; area = lent .area }) _ (λ ok z. absurd (nonzero z)) (λ no z. (refl, z)) e
 
-  pub looping-unsent : (n : ℕ) → first fits ≡ 0 → n ≡ sent .answer .refusal → (n ≡ 0 → ⊥) → looping x store lent ≡ unmoved n
+  pub looping-unsent : (n : ℕ) → first fits ≡ 0 → n ≡ sent .answer .refusal → (n ≡ 0 → ⊥) → looping x m store lent ≡ unmoved n
   looping-unsent n e z nonzero =
       let u = unsent n z nonzero in
       looping-fit e ∙ judged-first sends unmoved _ (λ y. nonzero (u .1 ∙ y)) ∙ rw (sym (u .1))
@@ -255,48 +285,49 @@ module _ (x : Asked) (store : List ℕ) (lent : Lent) where
   pub count-some : sent .answer .refusal ≡ 0 → 1 ≤ countIn out
   count-some z = let n = cuttable (x .table) (numbered (x .request) 0) (x .origin) (x .destination) (x .whole) (lent .area) (sends-accepted z) .number in omega arith
 
-  pub looping-done : first fits ≡ 0 → sent .answer .refusal ≡ 0 → looping x store lent ≡ record { number = 0; lap = laps (countIn out) 0 x start }
+  pub looping-done : first fits ≡ 0 → sent .answer .refusal ≡ 0 → looping x m store lent ≡ record { number = 0; lap = laps (countIn out) 0 x start }
   looping-done e z =
       looping-fit e ∙ judged-none sends unmoved _ (sending-sharp (x .table) (numbered (x .request) 0) (x .origin) (x .destination) (x .whole) (lent .area))
       (accepted-first sends (sends-accepted z))
 
   -- the contract, of an answer that is the rule's
-  module _ (typed : Typed (x .table)) (carrier : x .association < 2 ^ 16) where
-    loop-sharp : Sharp (loopChecks x store lent)
+  module _ (long : length m ≡ 512) (typed : Typed (x .table)) (carrier : x .association < 2 ^ 16) where
+    loop-sharp : Sharp (loopChecks x m store lent)
     unfolding loopChecks
     loop-sharp =
-        sharp-both fits sends (fit-sharp (x .table) (length store) (length (lent .report)) (length (lent .area)))
+        sharp-both fits sends (fit-sharp (x .table) m (x .association) (length store) (length (lent .report)) (length (lent .area)))
         (sending-sharp (x .table) (numbered (x .request) 0) (x .origin) (x .destination) (x .whole) (lent .area))
 
-    number-first : looping x store lent .number ≡ first (loopChecks x store lent)
+    number-first : looping x m store lent .number ≡ first (loopChecks x m store lent)
     unfolding looping
     number-first =
-        judged-by (λ (o : Looping). o .number ≡ first (loopChecks x store lent)) (loopChecks x store lent) unmoved _
-        (λ ok. sym (accepted-first (loopChecks x store lent) ok)) (λ no. refl)
+        judged-by (λ (o : Looping). o .number ≡ first (loopChecks x m store lent)) (loopChecks x m store lent) unmoved _
+        (λ ok. sym (accepted-first (loopChecks x m store lent) ok)) (λ no. refl)
 
-    done : accepted (loopChecks x store lent) ≡ true → looping x store lent .lap ≡ laps (countIn out) 0 x start
+    done : accepted (loopChecks x m store lent) ≡ true → looping x m store lent .lap ≡ laps (countIn out) 0 x start
     unfolding looping
     done ok = rw ok
 
-    pub kept : (answer : Looped) (store′ : List ℕ) (lent′ : Lent) → lapOf answer store′ lent′ ≡ looping x store lent .lap
-        → answer .number ≡ looping x store lent .number → OfLoopback x store lent answer store′ lent′
-    kept answer store′ lent′ l n =
-        let zero-only : answer .number ≡ 0 → accepted (loopChecks x store lent) ≡ true
-        = λ z. first-accepted (loopChecks x store lent) loop-sharp (sym number-first ∙ sym n ∙ z) in
+    pub kept : (answer : Looped) (m′ store′ : List ℕ) (lent′ : Lent) → lapOf answer m′ store′ lent′ ≡ looping x m store lent .lap
+        → answer .number ≡ looping x m store lent .number → OfLoopback x m store lent answer m′ store′ lent′
+    kept answer m′ store′ lent′ l n =
+        let zero-only : answer .number ≡ 0 → accepted (loopChecks x m store lent) ≡ true
+        = λ z. first-accepted (loopChecks x m store lent) loop-sharp (sym number-first ∙ sym n ∙ z) in
         record {
           answered = λ i. record { table = l i .state .table; decision = l i .decision; length = l i .length; number = n i };
+          summed = λ i. l i .state .summary;
           stored = λ i. l i .state .store;
           lent = λ i. l i .lent;
           only = zero-only;
-          always = λ ok. n ∙ number-first ∙ accepted-first (loopChecks x store lent) ok;
-          returned = λ z. ap handed l ∙ ap handed (done (zero-only z)) ∙ back (zero-only z) typed carrier;
+          always = λ ok. n ∙ number-first ∙ accepted-first (loopChecks x m store lent) ok;
+          returned = λ z. ap handed l ∙ ap handed (done (zero-only z)) ∙ back (zero-only z) long typed carrier;
         }
 
     -- nothing was done
     pub kept-unmoved : (n : ℕ) (answer : Looped) (lent′ : Lent) → answer ≡ record { table = x .table; decision = Refused; length = 0; number = n }
-        → looping x store lent ≡ unmoved n → lent′ ≡ lent → OfLoopback x store lent answer store lent′
+        → looping x m store lent ≡ unmoved n → lent′ ≡ lent → OfLoopback x m store lent answer m store lent′
     kept-unmoved n answer lent′ a o e =
-        kept answer store lent′ ((λ i. lapOf (a i) store (e i)) ∙ sym (ap (λ (o : Looping). o .lap) o)) ((λ i. a i .number) ∙ sym (ap (λ (o : Looping). o .number) o))
+        kept answer m store lent′ ((λ i. lapOf (a i) m store (e i)) ∙ sym (ap (λ (o : Looping). o .lap) o)) ((λ i. a i .number) ∙ sym (ap (λ (o : Looping). o .number) o))
 
   -- what the sender was asked for, and answered
   module _ (q : Request) (s : Sent) (area′ : List ℕ) (asked-for : q ≡ numbered (x .request) 0)
@@ -318,18 +349,19 @@ module _ (x : Asked) (store : List ℕ) (lent : Lent) where
         omega arith
 
     -- all segments
-    pub kept-done : (typed : Typed (x .table)) (carrier : x .association < 2 ^ 16) → first fits ≡ 0 → s .refusal ≡ 0
-        → (one : Looped) (store1 : List ℕ) (lent1 : Lent) → OfReceipt (segment (x .table) store (lent .report) (x .association) (take (s .length) area′)) (s .length) one store1 lent1
-        → (answer : Looped) (store2 : List ℕ) (lent2 : Lent) → OfLap (laps (s .count - 1) 1 x (lapOf one store1 (lending (lent1 .report) area′))) answer store2 lent2
-        → OfLoopback x store lent answer store2 lent2
+    pub kept-done : (long : length m ≡ 512) (typed : Typed (x .table)) (carrier : x .association < 2 ^ 16) → first fits ≡ 0 → s .refusal ≡ 0
+        → (one : Looped) (m1 store1 : List ℕ) (lent1 : Lent)
+        → OfReceipt (segmentWith (x .table) m store (lent .report) (x .association) (take (s .length) area′)) (s .length) one m1 store1 lent1
+        → (answer : Looped) (m2 store2 : List ℕ) (lent2 : Lent) → OfLap (laps (s .count - 1) 1 x (lapOf one m1 store1 (lending (lent1 .report) area′))) answer m2 store2 lent2
+        → OfLoopback x m store lent answer m2 store2 lent2
     unfolding laps
-    kept-done typed carrier fit z one store1 lent1 got answer store2 lent2 all =
+    kept-done long typed carrier fit z one m1 store1 lent1 got answer m2 store2 lent2 all =
         let r = sym refusal-is ∙ z in
         let n = count-some r in
         let e : countIn out ≡ suc (s .count - 1) = let c = count-is ∙ sent-count r in omega arith in
         let o = looping-done fit r in
-        let first-lap = one-lap x 0 (stateOf (x .table) store) lent area′ q s one store1 lent1 asked-for k got .lapped in
+        let first-lap = one-lap x 0 (stateOf (x .table) m store) lent area′ q s one m1 store1 lent1 asked-for k got .lapped in
         let after : laps (suc (s .count - 1)) 0 x start ≡ laps (s .count - 1) 1 x (lap x 0 start) = refl in
-        kept typed carrier answer store2 lent2
+        kept long typed carrier answer m2 store2 lent2
         (all .lapped ∙ ap (laps (s .count - 1) 1 x) first-lap ∙ sym after ∙ ap (λ (n : ℕ). laps n 0 x start) (sym e) ∙ sym (ap (λ (o : Looping). o .lap) o))
         (all .number ∙ sym (ap (λ (o : Looping). o .number) o))

@@ -1,2 +1,3 @@
 pub mod Back
 pub mod Owned
+pub mod Room

@@ -8,9 +8,10 @@ use rules::Table;
 ghost use mathlib.Core.Path.{_≡_};
 ghost use Rattle.rules.specs.Places.{isAt, lowestFree};
 ghost use Rattle.rules.specs.Refusals.{first};
+ghost use Rattle.rules.specs.Summary.{rowFor};
 ghost use Rattle.rules.specs.Calls.{lending};
 ghost use Rattle.loop_laps.specs.Laps.{asked};
-ghost use Rattle.loopback.specs.Loopback.{fitChecks, OfLoopback};
+ghost use Rattle.loopback.specs.Loopback.{isRoomy, countChecks, fitChecks, OfLoopback};
 
 // Nothing is done, and why.
 fn refused(t: Table, number: u8) -> Looped
@@ -35,10 +36,57 @@ fn has_vacant(t: Table) -> bool
     }
 }
 
-// Whether the table and the areas will do: 0, or the number of the first condition that fails.
-fn unfit(t: Table, store: usize, report: usize, area: usize) -> u8
-    ensures { λ r. ⌜ r ≡ first (fitChecks t store report area) ⌝ }
+// Whether the association has a row, or can get one.
+fn has_row(m: &[u64; rules::SUMMARY], association: u16) -> bool
+    ensures { λ r. ⌜ r ≡ isAt (rowFor (now (m .entry)) association) ⌝ }
 {
+    match summary::row_for(m, association) {
+        Found::At(_) => true,
+        Found::Nothing => false,
+    }
+}
+
+// Whether every total leaves room for all that a loopback may add.
+fn is_roomy(m: &[u64; rules::SUMMARY]) -> bool
+    ensures { λ r. ⌜ r ≡ isRoomy (now (m .entry)) ⌝ }
+{
+    let mut k = 0;
+    while k < 384 {
+        if rules::TOTAL - 65536 < m[128 + k] {
+            return false;
+        }
+        k += 1;
+    }
+    true
+}
+
+// Whether the summary can count it: 0, 21 or 22.
+fn uncounted(m: &[u64; rules::SUMMARY], association: u16) -> u8
+    ensures { λ r. ⌜ r ≡ first (countChecks (now (m .entry)) association) ⌝ }
+{
+    if !has_row(m, association) {
+        return 21;
+    }
+    if !is_roomy(m) {
+        return 22;
+    }
+    0
+}
+
+// Whether the table, the summary and the areas will do: 0, or the number of the first condition that fails.
+fn unfit(
+    t: Table,
+    m: &[u64; rules::SUMMARY],
+    association: u16,
+    store: usize,
+    report: usize,
+    area: usize,
+) -> u8
+    ensures { λ r. ⌜ r ≡ first (fitChecks t (now (m .entry)) association store report area) ⌝ }
+{
+    if !summary::is_sound(m, t) {
+        return 1;
+    }
     if !sound::is_sound(t) {
         return 1;
     }
@@ -54,12 +102,13 @@ fn unfit(t: Table, store: usize, report: usize, area: usize) -> u8
     if !has_vacant(t) {
         return 10;
     }
-    0
+    uncounted(m, association)
 }
 
 // Cuts the data, receives each segment at the same table, and answers with the last one's decision; or refuses, and nothing is changed.
 pub fn loopback(
     t: Table,
+    m: &mut [u64; rules::SUMMARY],
     q: Request,
     association: u16,
     origin: &[u8],
@@ -69,9 +118,10 @@ pub fn loopback(
     store: &mut [u8],
     report: &mut [u8],
 ) -> Looped
-    ensures { λ r. ⌜ OfLoopback (asked t q association (now (origin .entry)) (now (destination .entry)) (now (whole .entry))) (now (store .entry)) (lending (now (report .entry)) (now (area .entry))) r (now (store .exit)) (lending (now (report .exit)) (now (area .exit))) ⌝ }
+    ensures { λ r. ⌜ OfLoopback (asked t q association (now (origin .entry)) (now (destination .entry)) (now (whole .entry))) (now (m .entry)) (now (store .entry)) (lending (now (report .entry)) (now (area .entry))) r (now (m .exit)) (now (store .exit)) (lending (now (report .exit)) (now (area .exit))) ⌝ }
 {
-    let number = unfit(t, store.len(), report.len(), area.len());
+    summary::numbers(m);
+    let number = unfit(t, m, association, store.len(), report.len(), area.len());
     if number != 0 {
         return refused(t, number);
     }
@@ -86,7 +136,7 @@ pub fn loopback(
     if s.refusal != 0 {
         return refused(t, s.refusal);
     }
-    let first = loop_laps::receive(t, association, s.length, area, store, report);
+    let first = loop_laps::receive(t, association, s.length, area, m, store, report);
     let c = Course {
         table: t,
         request: q,
@@ -100,6 +150,7 @@ pub fn loopback(
         destination,
         whole,
         area,
+        m,
         store,
         report,
     )

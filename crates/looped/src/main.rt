@@ -7,8 +7,8 @@ use rules::Request;
 use rules::Table;
 
 // Context 3 of 1998; T 100.
-fn fresh() -> Table {
-    let r = opening::opening(b"\x01\x00\x03", 100, 0);
+fn fresh(m: &mut [u64; rules::SUMMARY]) -> Table {
+    let r = opening::opening(m, b"\x01\x00\x03", 100, 0);
     r.table
 }
 
@@ -38,11 +38,14 @@ fn refused(number: u8) {
 }
 
 fn looped(data: &[u8]) {
+    let mut summary = [0u64; rules::SUMMARY];
+    let table = fresh(&mut summary);
     let mut area = [0u8; 255];
     let mut store = [0u8; rules::STORE];
     let mut report = [0u8; rules::RECORD];
     let r = loopback::loopback(
-        fresh(),
+        table,
+        &mut summary,
         asked(),
         9,
         b"",

@@ -9,7 +9,7 @@ ghost use Prim.Native.Nat.{_+_, _≤_};
 ghost use lib.ListN.{length, take, drop};
 ghost use Rattle.rules.specs.General.{every};
 ghost use Rattle.rules.specs.Registry.{isEntry, entriesOf};
-ghost use Rattle.rules.specs.Opening.{noEntry, emptyTable, unopened};
+ghost use Rattle.rules.specs.Opening.{noEntry, emptyTable, unopened, opening};
 ghost use Rattle.rules.specs.Promises.{OfOpening};
 
 // An entry with nothing in it: all zero.
@@ -98,9 +98,9 @@ fn refused(number: u8) -> Opened
     }
 }
 
-// Opens a table from registry octets, T and the clock.
-pub fn opening(registry: &[u8], timer: u32, clock: u32) -> Opened
-    ensures { λ r. ⌜ OfOpening (now (registry .entry)) timer clock r ⌝ }
+// The table from registry octets, T and the clock.
+fn opened(registry: &[u8], timer: u32, clock: u32) -> Opened
+    ensures { λ r. ⌜ r ≡ opening (now (registry .entry)) timer clock ⌝ }
 {
     let timed = (1 <= timer) & (timer <= 1000000);
     if !timed {
@@ -121,4 +121,12 @@ pub fn opening(registry: &[u8], timer: u32, clock: u32) -> Opened
         table: empty_table(entries, timer, clock),
         refusal: 0,
     }
+}
+
+// Opens a table. Refused or not, the summary has no used row afterwards.
+pub fn opening(m: &mut [u64; rules::SUMMARY], registry: &[u8], timer: u32, clock: u32) -> Opened
+    ensures { λ r. ⌜ OfOpening (now (registry .entry)) timer clock r (now (m .exit)) ⌝ }
+{
+    summary::empty(m);
+    opened(registry, timer, clock)
 }

@@ -26,7 +26,7 @@ module _ (t : Table) (j : Judged) (holds : Holds t j) (store report octets : Lis
 
   pub as-unsegmented : Leading Unsegmented (tellingOf delivered 0 (j .fields .heading .instruction) 1 (length octets) (takenTo (j .fields .information) (j .held) (Delivered (OfParameter (j .fields .information) (length octets)))))
   unfolding carriedAt effectOf
-  as-unsegmented = record { answered = places-answer t _ _ (kept _ _ _ (holds .1)); stored = refl; reported = refl }
+  as-unsegmented = record { answered = places-answer t _ _ (kept _ _ _ (holds .1)); stored = refl; reported = refl; made = refl }
 
   pub as-broken : (cause : ℕ)
       → Leading (Broken cause)
@@ -38,25 +38,26 @@ module _ (t : Table) (j : Judged) (holds : Holds t j) (store report octets : Lis
         answered = places-answer t _ _ (freed _ _ _ (holds .1) (j .found));
         stored = refl;
         reported = rw (instruction-is (j .found) (j .at) (j .fields .heading .instruction) (j .held));
+        made = rw (instruction-is (j .found) (j .at) (j .fields .heading .instruction) (j .held));
       }
 
   pub as-restart : j .found ≡ true
       → Leading Restart (tellingOf lost 3 (j .held .instruction) (j .held .segments) (j .held .octets) (savingFrom 0 (takenTo (j .fields .information) (begunBy j (length octets)) (Lost 3 (At (j .at))))))
   unfolding carriedAt effectOf
-  as-restart o = rw o (record { answered = places-answer t _ _ (rw (holds .0)); stored = refl; reported = refl })
+  as-restart o = rw o (record { answered = places-answer t _ _ (rw (holds .0)); stored = refl; reported = refl; made = refl })
 
   pub as-start : Leading Start (savingFrom 0 (takenTo (j .fields .information) (begunBy j (length octets)) (Saved (j .at))))
   unfolding carriedAt effectOf
-  as-start = record { answered = places-answer t _ _ (rw (holds .0)); stored = refl; reported = refl }
+  as-start = record { answered = places-answer t _ _ (rw (holds .0)); stored = refl; reported = refl; made = refl }
 
   pub as-final : j .found ≡ true
       → Leading Final
       (tellingOf delivered 0 (j .held .instruction) (j .held .segments + 1) (j .held .octets + length octets)
       (savingFrom (j .held .octets) (takenTo (j .fields .information) freePlace (Delivered (OfStore (j .at) (j .held .octets + length octets))))))
   unfolding carriedAt effectOf
-  as-final o = rw o (record { answered = refl; stored = refl; reported = refl })
+  as-final o = rw o (record { answered = refl; stored = refl; reported = refl; made = refl })
 
   pub as-next : j .found ≡ true
       → Leading Next (savingFrom (j .held .octets) (takenTo (j .fields .information) (longer (j .held) (j .key) (j .fields .heading) (length octets)) (Saved (j .at))))
   unfolding carriedAt effectOf
-  as-next o = rw o (record { answered = refl; stored = refl; reported = refl })
+  as-next o = rw o (record { answered = refl; stored = refl; reported = refl; made = refl })

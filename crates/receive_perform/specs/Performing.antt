@@ -64,3 +64,4 @@ pub record Leads (o : Reception) (t : Table) (place : ℕ) (key : Key) (v : Verd
   pub answered : answerOf t place v ≡ o .answer
   pub stored : savedBy v place octets store ≡ o .store
   pub reported : toldBy v key report ≡ o .report
+  pub made : recordsIn v key ≡ o .made

@@ -8,7 +8,7 @@ use borrow.Author.Tests.{eqb-true}
 use lib.ListN.{length, getD}
 use Rattle.rules.specs.General.{every}
 use Rattle.rules.specs.Numbers.{parameterMost, addressMost}
-use Rattle.rules.specs.Refusals.{Check, accepted, judged}
+use Rattle.rules.specs.Refusals.{Check, accepted, first, judged}
 use Rattle.rules.specs.Layout.{isUnsegmented, fieldsOf, readingChecks}
 use Rattle.rules.specs.Places.{noPlace, freePlace, isOpen, placeOf, lowestFree, isAt, placeAt}
 use Rattle.rules.specs.Soundness.{freeSound, placeSound, sound}
@@ -16,7 +16,8 @@ use Rattle.rules.proofs.Held.{open-is, places-sound}
 use Rattle.rules.proofs.Soundness.{open-parts}
 use Rattle.rules.specs.declared.Entry.{Entry}
 use Rattle.rules.specs.Receiving.{keyOf, informationOf, lineOf, lineAt, isStart, effectOf, Reception, receptionOf, lentChecks, takingChecks, segmentChecks, segment, unreceived}
-use Rattle.rules.proofs.Refusals.{judged-append, judged-then}
+use Rattle.rules.proofs.Refusals.{judged-append, judged-then, first-least}
+use Rattle.rules.proofs.Least.{reading-least}
 use Rattle.rules.proofs.Reading.{parameter-short, address-short}
 use Rattle.param_read.specs.Reading.{reading}
 use Rattle.param_read.specs.declared.Reading.{Reading}
@@ -32,7 +33,7 @@ use Rattle.rules.specs.declared.Line.{Line}
 use Rattle.rules.specs.declared.Line.the-variants.{Unsegmented, Broken, Restart, Start, Final, Next}
 use Rattle.receive_lines.specs.Telling.{Tells}
 use Rattle.octets.proofs.Splice.{splice-nil}
-use Rattle.receive_perform.specs.Performing.{refusedWith, savedBy, toldBy, Fits, answerOf, Leads}
+use Rattle.receive_perform.specs.Performing.{refusedWith, recordsIn, savedBy, toldBy, Fits, answerOf, Leads}
 use Rattle.receive_perform.specs.declared.Verdict.{Verdict}
 use Rattle.receive_carry.specs.Carried.{foundIf, heldIf, carriedAt, Fit}
 use Rattle.receive_carry.proofs.Stepping.{kept}
@@ -46,12 +47,13 @@ leads-as {o} {o′} {t} {at} {k} {v} {octets} {st} {rp} e l =
       answered = l .answered ∙ ap (λ (x : Reception). x .answer) e;
       stored = l .stored ∙ ap (λ (x : Reception). x .store) e;
       reported = l .reported ∙ ap (λ (x : Reception). x .report) e;
+      made = l .made ∙ ap (λ (x : Reception). x .made) e;
     }
 
 -- .. of octets that are the same
 pub leads-of : {o : Reception} {t : Table} {at : ℕ} {k : Key} {v : Verdict} {octets octets′ st rp : List ℕ} → octets ≡ octets′ → Leads o t at k v octets st rp → Leads o t at k v octets′ st rp
 leads-of {o} {t} {at} {k} {v} {octets} {octets′} {st} {rp} e l =
-    record { answered = l .answered; stored = ap (λ (x : List ℕ). savedBy v at x st) (sym e) ∙ l .stored; reported = l .reported }
+    record { answered = l .answered; stored = ap (λ (x : List ℕ). savedBy v at x st) (sym e) ∙ l .stored; reported = l .reported; made = l .made }
 
 -- a refusal writes back what the place holds, and nothing else
 module _ (t : Table) (at n : ℕ) (k : Key) (held : Place) (v : Verdict) (there : held ≡ getD (t .places) at noPlace) (e : v ≡ refusedWith n held) where
@@ -61,16 +63,22 @@ module _ (t : Table) (at n : ℕ) (k : Key) (held : Place) (v : Verdict) (there 
         answered = ap (answerOf t at) e ∙ rw (kept (t .places) at held there);
         stored = ap (λ (w : Verdict). savedBy w at octets store) e;
         reported = ap (λ (w : Verdict). toldBy w k report) e ∙ splice-nil report 0;
+        made = ap (λ (w : Verdict). recordsIn w k) e;
       }
 
   pub refused-fits : (store m : ℕ) → Fits v store m
   refused-fits store m w = absurd (true≢false (sym w ∙ ap (λ (x : Verdict). x .saves) e))
 
-  pub refused-verdict : (store report association : ℕ) (s : List ℕ)
+  pub refused-verdict : (store report association : ℕ) (s : List ℕ) → (n ≡ 0 → ⊥)
       → ((st rp : List ℕ) → length st ≡ store → length rp ≡ report → segment t st rp association s ≡ unreceived t st rp n)
       → OfVerdict t store report association s at k v
-  refused-verdict store report association s is =
-      record { leads = λ st rp a b. leads-as (sym (is st rp a b)) (refuses _ st rp); fits = refused-fits _ _ }
+  refused-verdict store report association s some is =
+      record {
+        leads = λ st rp a b. leads-as (sym (is st rp a b)) (refuses _ st rp);
+        fits = refused-fits _ _;
+        taken = λ z. absurd (some (sym (ap (λ (w : Verdict). w .refusal) e) ∙ z));
+        own = λ z. absurd (some (sym (ap (λ (w : Verdict). w .refusal) e) ∙ z));
+      }
 
 -- where no sequence is open, what it would hold does not matter to the line
 line-closed : (a b x y : ℕ) (g : Heading) (n : ℕ) → lineOf false a x g n ≡ lineOf false b y g n
@@ -232,3 +240,23 @@ read-same f g e = cc
 
 pub refused-read : (n : ℕ) (f : Fields) → _≡_ {A = Reading} (Refused n) (Read f) → ⊥
 refused-read n f e = let z : _≡_ {A = ℕ} 0 1 = cc in (let y : ⊥ = omega arith in y)
+
+-- what is read are the fields; what is not has a number
+pub read-fields : (registry : List Entry) (s : List ℕ) (f : Fields) → reading registry s ≡ Read f → fieldsOf registry s ≡ f
+unfolding reading
+read-fields registry s f e = go (accepted (readingChecks registry s)) refl
+  where
+    go : (b : Bool) → accepted (readingChecks registry s) ≡ b → fieldsOf registry s ≡ f
+    go true a = let same = simp a at e in cc
+    go false a = absurd (refused-read _ f (simp a at e))
+
+pub read-number : (registry : List Entry) (s : List ℕ) (n : ℕ) → reading registry s ≡ Refused n → n ≡ 0 → ⊥
+unfolding reading
+read-number registry s n e z = go (accepted (readingChecks registry s)) refl
+  where
+    go : (b : Bool) → accepted (readingChecks registry s) ≡ b → ⊥
+    go true a = refused-read n (fieldsOf registry s) (sym (simp a at e))
+    go false a =
+        let same : first (readingChecks registry s) ≡ n = let h = simp a at e in cc in
+        let least = first-least 2 (readingChecks registry s) (reading-least registry s) a in
+        omega arith

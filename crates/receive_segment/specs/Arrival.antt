@@ -1,16 +1,18 @@
 -- A segment that has been read: the place that it is about, and what becomes of it.
 use Prim.Native.Nat.{ℕ}
 use mathlib.Core.Path.{_≡_}
-use mathlib.Core.Bool.{false}
+use mathlib.Core.Bool.{Bool, true, false}
 use mathlib.Core.List.{List}
 use lib.ListN.{length, drop}
 use Rattle.rules.specs.Refusals.{judged}
-use Rattle.rules.specs.Layout.{isUnsegmented}
+use Rattle.rules.specs.Layout.{isUnsegmented, fieldsOf}
 use Rattle.rules.specs.Places.{placeOf, lowestFree, placeAt}
-use Rattle.rules.specs.Receiving.{lineAt, effectOf, takingChecks, Reception, receptionOf, unreceived, segment}
+use Rattle.rules.specs.Receiving.{informationOf, lineAt, effectOf, takingChecks, Reception, receptionOf, unreceived, segment}
 use Rattle.table.specs.Seeking.{Points}
 use Rattle.receive_perform.specs.Performing.{Fits, Leads}
 use Rattle.receive_perform.specs.declared.Verdict.{Verdict}
+use Rattle.receive_count.specs.Counting.{OfCount}
+use Rattle.receive_count.specs.declared.Count.{Count}
 use Rattle.receive_segment.specs.declared.Sought.{Sought}
 use Rattle.rules.specs.declared.Key.{Key}
 use Rattle.rules.specs.declared.Table.{Table}
@@ -37,3 +39,12 @@ arrival t store report key f octets =
 pub record OfVerdict (t : Table) (store report association : ℕ) (s : List ℕ) (place : ℕ) (key : Key) (v : Verdict) : Type 0 where
   pub leads : (st rp : List ℕ) → length st ≡ store → length rp ≡ report → Leads (segment t st rp association s) t place key v (drop (v .information) s) st rp
   pub fits : Fits v store (length (drop (v .information) s))
+  pub taken : v .refusal ≡ 0 → drop (v .information) s ≡ informationOf s (fieldsOf (t .registry) s)
+  pub own : v .refusal ≡ 0 → key .association ≡ association
+
+-- the number of a call on a segment of n octets, by whether the summary is sound and by its verdict: 1, the verdict's, or the summary's last
+pub record OfWeighing (m : List ℕ) (isSummed : Bool) (association n : ℕ) (v : Verdict) (c : Count) : Type 0 where
+  pub unsound : isSummed ≡ false → c .refusal ≡ 1
+  pub refused : isSummed ≡ true → (v .refusal ≡ 0 → ⊥) → c .refusal ≡ v .refusal
+  pub counted : isSummed ≡ true → v .refusal ≡ 0 → OfCount m association n v c
+  pub taken : c .refusal ≡ 0 → (isSummed ≡ true) × (v .refusal ≡ 0)

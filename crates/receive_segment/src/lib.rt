@@ -1,6 +1,7 @@
 // Segments joined: the segment call.
 use param_read::Reading;
 use receive_carry::Judged;
+use receive_count::Count;
 use receive_perform::Verdict;
 use rules::Decision;
 use rules::Fields;
@@ -11,18 +12,18 @@ use rules::Table;
 use table::Search;
 ghost use mathlib.Core.Path.{_≡_};
 ghost use mathlib.Core.Bool.{true, false};
-ghost use mathlib.Core.List.{List};
+ghost use mathlib.Core.List.{List, []};
 ghost use Prim.Native.Nat.{ℕ, _≤_, _<_};
 ghost use lib.ListN.{length, drop, getD};
 ghost use Rattle.rules.specs.Numbers.{parameterMost, storeLeast, addressMost, placeCount};
 ghost use Rattle.rules.specs.Places.{noPlace, placeOf, lowestFree};
-ghost use Rattle.rules.specs.Receiving.{keyOf, informationOf};
+ghost use Rattle.rules.specs.Receiving.{keyOf, informationOf, unreceived};
 ghost use Rattle.rules.specs.Soundness.{sound};
 ghost use Rattle.rules.specs.Promises.{OfSegment};
 ghost use Rattle.param_read.specs.Reading.{reading};
 ghost use Rattle.table.specs.Seeking.{Points};
 ghost use Rattle.receive_perform.specs.Performing.{refusedWith, Fits, Leads};
-ghost use Rattle.receive_segment.specs.Arrival.{Seeks, arrival, OfVerdict};
+ghost use Rattle.receive_segment.specs.Arrival.{Seeks, arrival, OfVerdict, OfWeighing};
 
 // A parameter's reading, its key, and the place that it is about.
 pub struct Sought {
@@ -118,6 +119,7 @@ fn arrive(t: Table, s: &[u8], f: Fields, q: Sought, held: Place) -> Verdict
     requires { ⌜ (q .search .at < placeCount) × (held ≡ getD (t .places) (q .search .at) noPlace) ⌝ }
     ensures { λ r. ⌜ ((store report : List ℕ) → Leads (arrival t store report (q .key) f (informationOf (now (s .entry)) f)) t (q .search .at) (q .key) r (drop (r .information) (now (s .entry))) store report) ⌝ }
     ensures { λ r. ⌜ ((store : ℕ) → storeLeast ≤ store → Fits r store (length (drop (r .information) (now (s .entry))))) ⌝ }
+    ensures { λ r. ⌜ (r .refusal ≡ 0 → r .information ≡ f .information) ⌝ }
 {
     let n = param_read::tail(s, f.information).len();
     let heading = f.heading;
@@ -172,17 +174,66 @@ fn judge(
     }
 }
 
-// A segment arrives. It is judged, reading only; then the verdict is performed, and one place of the copy of the table is written. A check that looks at the verdict goes between the two.
+// The answer to a segment that is refused: the table as it came.
+fn refusal(t: Table, number: u8) -> Received
+    ensures { λ r. ⌜ r ≡ unreceived t [] [] number .answer ⌝ }
+{
+    Received {
+        table: t,
+        decision: Decision::Refused,
+        refusal: number,
+        records: 0,
+    }
+}
+
+// .. to one that is taken.
+fn received(t: Table, v: Verdict) -> Received
+    ensures { λ r. ⌜ r ≡ record { table = t; decision = v .decision; refusal = v .refusal; records = v .records } ⌝ }
+{
+    let decision = v.decision;
+    Received {
+        table: t,
+        decision,
+        refusal: v.refusal,
+        records: v.records,
+    }
+}
+
+// What a call answers to a segment of n octets, by its verdict and the summary: a refusal, 0 where it is taken, and the row in which it is counted.
+fn count(
+    m: &[u64; rules::SUMMARY],
+    is_summed: bool,
+    association: u16,
+    n: usize,
+    v: Verdict,
+) -> Count
+    ensures { λ r. ⌜ OfWeighing (now (m .entry)) «is_summed» association n v r ⌝ }
+{
+    if !is_summed {
+        return Count { row: 0, refusal: 1 };
+    }
+    if v.refusal != 0 {
+        return Count {
+            row: 0,
+            refusal: v.refusal,
+        };
+    }
+    receive_count::judge(m, association, n, v)
+}
+
+// A segment arrives. All is judged, reading only; then the verdict is performed and counted, and one place of the copy of the table is written. A later check goes before the first writing.
 pub fn segment(
     t: Table,
+    m: &mut [u64; rules::SUMMARY],
     store: &mut [u8],
     report: &mut [u8],
     association: u16,
     s: &[u8],
 ) -> Received
-    ensures { λ r. ⌜ OfSegment t (now (store .entry)) (now (report .entry)) association (now (s .entry)) r (now (store .exit)) (now (report .exit)) ⌝ }
+    ensures { λ r. ⌜ OfSegment t (now (m .entry)) (now (store .entry)) (now (report .entry)) association (now (s .entry)) r (now (m .exit)) (now (store .exit)) (now (report .exit)) ⌝ }
 {
     let is_sound = sound::is_sound(t);
+    let is_summed = summary::is_sound(m, t);
     let mut next = t;
     let q = seek(t, association, s);
     let at = q.search.at;
@@ -197,16 +248,16 @@ pub fn segment(
         q,
         held,
     );
-    let key = q.key;
     let octets = param_read::tail(s, v.information);
+    let n = octets.len();
+    let c = count(m, is_summed, association, n, v);
+    if c.refusal != 0 {
+        return refusal(next, c.refusal);
+    }
+    receive_count::perform(m, c, association, n, v);
+    let key = q.key;
     receive_perform::perform(v, at, key, store, report, octets);
     let put = v.put;
     next.places[at] = put;
-    let decision = v.decision;
-    Received {
-        table: next,
-        decision,
-        refusal: v.refusal,
-        records: v.records,
-    }
+    received(next, v)
 }

@@ -5,16 +5,18 @@ use rules::Swept;
 use rules::Table;
 ghost use mathlib.Core.Path.{_≡_};
 ghost use mathlib.Core.List.{[], _∷_};
-ghost use mathlib.Core.Bool.{not};
+ghost use mathlib.Core.Bool.{true, not};
 ghost use Prim.Native.Nat.{_+_, _*_, _≤_};
 ghost use lib.Dec.{ltb};
 ghost use lib.ListN.{length};
 ghost use Rattle.octets.specs.Splice.{Wrote};
 ghost use Rattle.rules.specs.Records.{recordLength, recordsOctets};
 ghost use Rattle.rules.specs.Refusals.{_when_, first};
+ghost use Rattle.rules.specs.Places.{firstFrom, isAt};
 ghost use Rattle.rules.specs.Sweep.{lossOf, unswept, reportLeast};
+ghost use Rattle.rules.specs.Summary.{billed, fits};
 ghost use Rattle.rules.specs.Promises.{OfClock, OfRelease};
-ghost use Rattle.receive_sweep.specs.Sweeping.{testOf, causeOf, sweptBy};
+ghost use Rattle.receive_sweep.specs.Sweeping.{testOf, causeOf, losses, sweptBy, sweptWith, passedAt};
 
 // Which sequences a sweep loses: those too old at a time, or those of an association.
 pub enum Test {
@@ -104,7 +106,81 @@ fn refused(t: Table, refusal: u8) -> Swept
     }
 }
 
-// The first refusal, of the table or the report area, that a sweep's arguments give; 0 is none.
+// The answer to a call that loses nothing: the table with its clock set.
+fn passed(t: Table, time: u32) -> Swept
+    ensures { λ r. ⌜ r ≡ passedAt time t ⌝ }
+{
+    let mut after = t;
+    after.clock = time;
+    Swept {
+        table: after,
+        refusal: 0,
+        records: 0,
+    }
+}
+
+// Whether a sweep loses anything.
+fn any_due(t: Table, which: Test) -> bool
+    ensures { λ r. ⌜ r ≡ isAt (firstFrom (testOf which) (t .places) 0) ⌝ }
+{
+    let mut i = 0;
+    while i < rules::PLACES {
+        let p = t.places[i];
+        if is_due(which, p) {
+            return true;
+        }
+        i += 1;
+    }
+    false
+}
+
+// Bills what a sweep loses of a place, unless a total would become too large.
+fn bill_due(m: &mut [u64; rules::SUMMARY], which: Test, p: Place) -> bool
+    ensures { λ r. ⌜ r ≡ fits (now (m .entry)) (billed (now (m .entry)) (losses which (p ∷ []))) ⌝ }
+    ensures { λ r. ⌜ (r ≡ true → now (m .exit) ≡ billed (now (m .entry)) (losses which (p ∷ []))) ⌝ }
+{
+    if is_due(which, p) {
+        return summary::bill_loss(m, p.key.association, p.segments as u64, p.octets as u64);
+    }
+    true
+}
+
+// Bills all that a sweep loses, each on top of those before it, so that several of one association are judged by their sum.
+fn billed(t: Table, which: Test, m: &mut [u64; rules::SUMMARY]) -> bool
+    ensures { λ r. ⌜ r ≡ fits (now (m .entry)) (billed (now (m .entry)) (losses which (t .places))) ⌝ }
+    ensures { λ r. ⌜ (r ≡ true → now (m .exit) ≡ billed (now (m .entry)) (losses which (t .places))) ⌝ }
+{
+    // For the proof, which needs how many numbers m has.
+    summary::numbers(m);
+    let mut i = 0;
+    while i < rules::PLACES {
+        let p = t.places[i];
+        if !bill_due(m, which, p) {
+            return false;
+        }
+        i += 1;
+    }
+    true
+}
+
+// A sweep of arguments that are otherwise judged. It bills a copy: a loss that does not fit may come after others that do.
+fn lose(t: Table, m: &mut [u64; rules::SUMMARY], report: &mut [u8], time: u32, which: Test) -> Swept
+    ensures { λ r. ⌜ r ≡ sweptWith which time t (now (m .entry)) (now (report .entry)) .call .answer ⌝ }
+    ensures { λ _. ⌜ now (m .exit) ≡ sweptWith which time t (now (m .entry)) (now (report .entry)) .summary ⌝ }
+    ensures { λ _. ⌜ now (report .exit) ≡ sweptWith which time t (now (m .entry)) (now (report .entry)) .call .report ⌝ }
+{
+    if !any_due(t, which) {
+        return passed(t, time);
+    }
+    let mut trial = *m;
+    if !billed(t, which, &mut trial) {
+        return refused(t, 22);
+    }
+    *m = trial;
+    swept(t, report, time, which)
+}
+
+// The first refusal, of the table with its summary or the report area, that a sweep's arguments give; 0 is none.
 fn judge(sound: bool, report: &[u8]) -> u8
     ensures { λ r. ⌜ r ≡ first (1 when not sound ∷ 3 when ltb (length (now (report .entry))) reportLeast ∷ []) ⌝ }
 {
@@ -118,10 +194,10 @@ fn judge(sound: bool, report: &[u8]) -> u8
 }
 
 // Sets the clock, and loses every sequence that has grown too old.
-pub fn clock(t: Table, report: &mut [u8], time: u32) -> Swept
-    ensures { λ r. ⌜ OfClock t (now (report .entry)) time r (now (report .exit)) ⌝ }
+pub fn clock(t: Table, m: &mut [u64; rules::SUMMARY], report: &mut [u8], time: u32) -> Swept
+    ensures { λ r. ⌜ OfClock t (now (m .entry)) (now (report .entry)) time r (now (m .exit)) (now (report .exit)) ⌝ }
 {
-    let refusal = judge(sound::is_sound(t), report);
+    let refusal = judge(sound::is_sound(t) & summary::is_sound(m, t), report);
     if refusal != 0 {
         return refused(t, refusal);
     }
@@ -129,16 +205,21 @@ pub fn clock(t: Table, report: &mut [u8], time: u32) -> Swept
         return refused(t, 13);
     }
     let timer = t.timer;
-    swept(t, report, time, Test::Aged { time, timer })
+    lose(t, m, report, time, Test::Aged { time, timer })
 }
 
 // Loses every sequence of an association.
-pub fn release(t: Table, report: &mut [u8], association: u16) -> Swept
-    ensures { λ r. ⌜ OfRelease t (now (report .entry)) association r (now (report .exit)) ⌝ }
+pub fn release(
+    t: Table,
+    m: &mut [u64; rules::SUMMARY],
+    report: &mut [u8],
+    association: u16,
+) -> Swept
+    ensures { λ r. ⌜ OfRelease t (now (m .entry)) (now (report .entry)) association r (now (m .exit)) (now (report .exit)) ⌝ }
 {
-    let refusal = judge(sound::is_sound(t), report);
+    let refusal = judge(sound::is_sound(t) & summary::is_sound(m, t), report);
     if refusal != 0 {
         return refused(t, refusal);
     }
-    swept(t, report, t.clock, Test::Of(association))
+    lose(t, m, report, t.clock, Test::Of(association))
 }

@@ -19,3 +19,8 @@ pub mod Apart
 pub mod Soundness
 pub mod Own
 pub mod Sweeping
+pub mod Below
+pub mod Rows
+pub mod Fitting
+pub mod Seats
+pub mod Least

@@ -13,7 +13,8 @@ use Rattle.rules.specs.Numbers.{parameterMost, stretchLength, placeStart
 use Rattle.rules.specs.Refusals.{accepted}
 use Rattle.rules.specs.Layout.{fieldsOf}
 use Rattle.rules.specs.Places.{noPlace, placeOf, lowestFree, isAt, numberOf, placeAt, putPlace}
-use Rattle.rules.specs.Receiving.{keyOf, informationOf, lineOf, Effect, effectOf, segmentChecks, Reception, receivedAt, segment}
+use Rattle.rules.specs.Receiving.{keyOf, informationOf, lineOf, Effect, effectOf, Reception, receivedAt}
+use Rattle.rules.specs.Summary.{segmentChecksWith, segmentWith}
 use Rattle.rules.specs.declared.Key.{Key}
 use Rattle.rules.specs.declared.Place.{Place}
 use Rattle.rules.specs.declared.Table.{Table}
@@ -23,7 +24,7 @@ use Rattle.rules.specs.declared.Found.{Found}
 use Rattle.rules.specs.declared.Found.the-variants.{At, Nothing}
 use Rattle.rules.specs.declared.Line.{Line}
 use Rattle.rules.specs.declared.Line.the-variants.{Unsegmented, Broken, Restart, Start, Final, Next}
-use Rattle.rules.proofs.Answers.{segment-by}
+use Rattle.rules.proofs.Answers.{segment-by, segment-accepted}
 use Rattle.rules.proofs.Arrived.{lineFor, arrived}
 use Rattle.rules.proofs.Reading.{parameter-short}
 use Rattle.rules.proofs.Lines.{line-cases}
@@ -69,8 +70,8 @@ abbrev pub savedFrom : Table → ℕ → List ℕ → ℕ
 savedFrom t association s = fromOf (lineFor t association s) (t .places) (ownPlace t association s)
 
 -- index j is in the newly saved information: the segment is accepted, its line saves, and j is from there on among as many octets as the information has
-pub record NewlySaved (t : Table) (store report : List ℕ) (association : ℕ) (s : List ℕ) (j : ℕ) : Type 0 where
-  pub carried : accepted (segmentChecks t store report association s) ≡ true
+pub record NewlySaved (t : Table) (m store report : List ℕ) (association : ℕ) (s : List ℕ) (j : ℕ) : Type 0 where
+  pub carried : accepted (segmentChecksWith t m store report association s) ≡ true
   pub saving : saves (lineFor t association s) ≡ true
   pub from : savedFrom t association s ≤ j
   pub until : j < savedFrom t association s + length (informationOf s (fieldsOf (t .registry) s))
@@ -182,7 +183,7 @@ own-open : (ps : List Place) (place vacant : Found) → isAt place ≡ true → 
 own-open ps (At i) vacant e = refl
 own-open ps Nothing vacant e = never (sym e)
 
-module _ (t : Table) (store report : List ℕ) (association : ℕ) (s : List ℕ) where
+module _ (t : Table) (m store report : List ℕ) (association : ℕ) (s : List ℕ) where
   abbrev f : Fields
   f = fieldsOf (t .registry) s
 
@@ -191,26 +192,26 @@ module _ (t : Table) (store report : List ℕ) (association : ℕ) (s : List ℕ
       × KeptOctets (saves (lineFor t association s)) (savedFrom t association s) (length (informationOf s f)) store (r .store)
   kept = each-line t store (keyOf association s f) f (informationOf s f) (lowestFree (t .places)) (placeOf (keyOf association s f) (t .places))
 
-  pub own-place : OwnPlace (ownPlace t association s) t (segment t store report association s .answer .table)
+  pub own-place : OwnPlace (ownPlace t association s) t (segmentWith t m store report association s .call .answer .table)
   own-place =
-      segment-by (λ (r : Reception). OwnPlace (ownPlace t association s) t (r .answer .table)) t store report association s
+      segment-by t m store report association s (λ (r : Reception). OwnPlace (ownPlace t association s) t (r .answer .table))
       (λ e. record { others = kept .0 .others; count = kept .0 .count; registry = refl; timer = refl; clock = refl })
       (λ e. record { others = λ j h. refl; count = refl; registry = refl; timer = refl; clock = refl })
 
-  pub own-octets : OwnOctets (NewlySaved t store report association s) store (segment t store report association s .store)
+  pub own-octets : OwnOctets (NewlySaved t m store report association s) store (segmentWith t m store report association s .call .store)
   own-octets =
-      segment-by (λ (r : Reception). OwnOctets (NewlySaved t store report association s) store (r .store)) t store report association s
+      segment-by t m store report association s (λ (r : Reception). OwnOctets (NewlySaved t m store report association s) store (r .store))
       (λ e. record { length = kept .1 .count; others = λ j h. kept .1 .others j (λ a b c. h (record { carried = e; saving = a; from = b; until = c })) })
       (λ e. record { length = refl; others = λ j h. refl })
 
   -- the newly saved information is in the own place's stretch of the store
-  pub own-stretch : (j : ℕ) → NewlySaved t store report association s j
+  pub own-stretch : (j : ℕ) → NewlySaved t m store report association s j
       → (placeStart (numberOf (ownPlace t association s)) ≤ j) × (j < placeStart (numberOf (ownPlace t association s)) + stretchLength)
   own-stretch j w =
       let place : Found = placeOf (keyOf association s f) (t .places) in
       let there : Place = placeAt (t .places) place in
       let own : Place = placeAt (t .places) (ownPlace t association s) in
-      let short = parameter-short (t .registry) s (arrived t store report association s (w .carried) .reading) in
+      let short = parameter-short (t .registry) s (arrived t store report association s (segment-accepted t m store report association s (w .carried) .0 .own) .reading) in
       let few = length-drop (f .information) s in
       let end : savedBefore (lineFor t association s) own + length (informationOf s f) ≤ stretchLength =
       fits (isAt place) (there .remaining .0) (there .octets) (f .heading) (length (informationOf s f)) own (omega arith)

@@ -1,9 +1,10 @@
--- Which calls there are, and what each does to the state that is handed on from call to call: the table and the lent store.
+-- Which calls there are, and what each does to the state that is handed on from call to call: the table, the summary and the lent store.
 use Prim.Native.Nat.{ℕ}
 use mathlib.Core.List.{List, []}
-use Rattle.rules.specs.Receiving.{Reception, segment}
-use Rattle.rules.specs.Sweep.{Sweeping, clock, release}
+use Rattle.rules.specs.Receiving.{Reception}
+use Rattle.rules.specs.Sweep.{Sweeping}
 use Rattle.rules.specs.Opening.{opening}
+use Rattle.rules.specs.Summary.{Counted, segmentWith, clockWith, releaseWith, emptySummary}
 use Rattle.rules.specs.Sending.{Sending, sending}
 use Rattle.rules.specs.declared.Table.{Table}
 use Rattle.rules.specs.declared.Request.{Request}
@@ -13,10 +14,11 @@ use Rattle.rules.specs.declared.Decision.the-variants.{Refused}
 
 pub record State : Type 0 where
   pub table : Table
+  pub summary : List ℕ
   pub store : List ℕ
 
-abbrev pub stateOf : Table → List ℕ → State
-stateOf t store = record { table = t; store = store }
+abbrev pub stateOf : Table → List ℕ → List ℕ → State
+stateOf t m store = record { table = t; summary = m; store = store }
 
 -- what each call is given: its arguments, and the area that it lends beside the store
 pub record Opening : Type 0 where
@@ -115,20 +117,20 @@ pub record Outcome : Type 0 where
   pub state : State
 
 abbrev pub afterOpening : List ℕ → Opened → Outcome
-afterOpening store o = record { answer = answering (o .refusal) 0 Undecided (lending [] []); state = stateOf (o .table) store }
+afterOpening store o = record { answer = answering (o .refusal) 0 Undecided (lending [] []); state = stateOf (o .table) emptySummary store }
 
-abbrev pub afterSegment : Reception → Outcome
+abbrev pub afterSegment : Counted Reception → Outcome
 afterSegment o =
     record {
-      answer = answering (o .answer .refusal) (o .answer .records) (As (o .answer .decision)) (lending (o .report) []);
-      state = stateOf (o .answer .table) (o .store);
+      answer = answering (o .call .answer .refusal) (o .call .answer .records) (As (o .call .answer .decision)) (lending (o .call .report) []);
+      state = stateOf (o .call .answer .table) (o .summary) (o .call .store);
     }
 
-abbrev pub afterSweep : List ℕ → Sweeping → Outcome
+abbrev pub afterSweep : List ℕ → Counted Sweeping → Outcome
 afterSweep store o =
     record {
-      answer = answering (o .answer .refusal) (o .answer .records) Undecided (lending (o .report) []);
-      state = stateOf (o .answer .table) store;
+      answer = answering (o .call .answer .refusal) (o .call .answer .records) Undecided (lending (o .call .report) []);
+      state = stateOf (o .call .answer .table) (o .summary) store;
     }
 
 abbrev pub afterSending : State → Sending → Outcome
@@ -140,7 +142,7 @@ afterSending st o =
 
 unfoldable pub step : State → Call → Outcome
 step st (Opens x) = afterOpening (st .store) (opening (x .registry) (x .timer) (x .time))
-step st (Arrives x) = afterSegment (segment (st .table) (st .store) (x .report) (x .association) (x .parameter))
-step st (Ticks x) = afterSweep (st .store) (clock (st .table) (x .report) (x .time))
-step st (Releases x) = afterSweep (st .store) (release (st .table) (x .report) (x .association))
+step st (Arrives x) = afterSegment (segmentWith (st .table) (st .summary) (st .store) (x .report) (x .association) (x .parameter))
+step st (Ticks x) = afterSweep (st .store) (clockWith (st .table) (st .summary) (x .report) (x .time))
+step st (Releases x) = afterSweep (st .store) (releaseWith (st .table) (st .summary) (x .report) (x .association))
 step st (Sends x) = afterSending st (sending (st .table) (x .request) (x .origin) (x .destination) (x .whole) (x .area))

@@ -20,10 +20,12 @@ pub mod Receiving
 pub mod Delivery
 pub mod Sweep
 pub mod Opening
+pub mod Summary
 pub mod Sending
 pub mod Calls
 pub mod Promises
 pub mod Trace
 pub mod Lines
 pub mod Listing
+pub mod Totalling
 pub mod Examples

@@ -2,10 +2,9 @@
 use Prim.Native.Nat.{ℕ}
 use mathlib.Core.Path.{_≡_}
 use mathlib.Core.List.{List}
-use Rattle.rules.specs.Receiving.{segment}
 use Rattle.rules.specs.Delivery.{delivery}
-use Rattle.rules.specs.Sweep.{clock, release}
 use Rattle.rules.specs.Opening.{opening}
+use Rattle.rules.specs.Summary.{segmentWith, clockWith, releaseWith, emptySummary}
 use Rattle.rules.specs.Sending.{sending}
 use Rattle.rules.specs.declared.Table.{Table}
 use Rattle.rules.specs.declared.Request.{Request}
@@ -15,21 +14,25 @@ use Rattle.rules.specs.declared.Opened.{Opened}
 use Rattle.rules.specs.declared.Sent.{Sent}
 use Rattle.rules.specs.declared.Decision.{Decision}
 
-pub record OfOpening (registry : List ℕ) (timer time : ℕ) (answer : Opened) : Type 0 where
+pub record OfOpening (registry : List ℕ) (timer time : ℕ) (answer : Opened) (m′ : List ℕ) : Type 0 where
   pub answered : answer ≡ opening registry timer time
+  pub summed : m′ ≡ emptySummary
 
-pub record OfSegment (t : Table) (store report : List ℕ) (association : ℕ) (s : List ℕ) (answer : Received) (store′ report′ : List ℕ) : Type 0 where
-  pub answered : answer ≡ segment t store report association s .answer
-  pub stored : store′ ≡ segment t store report association s .store
-  pub reported : report′ ≡ segment t store report association s .report
+pub record OfSegment (t : Table) (m store report : List ℕ) (association : ℕ) (s : List ℕ) (answer : Received) (m′ store′ report′ : List ℕ) : Type 0 where
+  pub answered : answer ≡ segmentWith t m store report association s .call .answer
+  pub summed : m′ ≡ segmentWith t m store report association s .summary
+  pub stored : store′ ≡ segmentWith t m store report association s .call .store
+  pub reported : report′ ≡ segmentWith t m store report association s .call .report
 
-pub record OfClock (t : Table) (report : List ℕ) (time : ℕ) (answer : Swept) (report′ : List ℕ) : Type 0 where
-  pub answered : answer ≡ clock t report time .answer
-  pub reported : report′ ≡ clock t report time .report
+pub record OfClock (t : Table) (m report : List ℕ) (time : ℕ) (answer : Swept) (m′ report′ : List ℕ) : Type 0 where
+  pub answered : answer ≡ clockWith t m report time .call .answer
+  pub summed : m′ ≡ clockWith t m report time .summary
+  pub reported : report′ ≡ clockWith t m report time .call .report
 
-pub record OfRelease (t : Table) (report : List ℕ) (association : ℕ) (answer : Swept) (report′ : List ℕ) : Type 0 where
-  pub answered : answer ≡ release t report association .answer
-  pub reported : report′ ≡ release t report association .report
+pub record OfRelease (t : Table) (m report : List ℕ) (association : ℕ) (answer : Swept) (m′ report′ : List ℕ) : Type 0 where
+  pub answered : answer ≡ releaseWith t m report association .call .answer
+  pub summed : m′ ≡ releaseWith t m report association .summary
+  pub reported : report′ ≡ releaseWith t m report association .call .report
 
 pub record OfDelivery (d : Decision) (s store part : List ℕ) : Type 0 where
   pub handed : part ≡ delivery d s store

@@ -166,11 +166,12 @@ segmentChecks t store report association s =
     ++ readingChecks (t .registry) s
     ++ takingChecks (lineAt t (keyOf association s f) (f .heading) (length (informationOf s f))) (t .places)
 
--- what a call leaves: its answer, the store and the report area
+-- what a call leaves: its answer, the store and the report area; and the records that it made
 pub record Reception : Type 0 where
   pub answer : Received
   pub store : List ℕ
   pub report : List ℕ
+  pub made : List Record
 
 -- records go to the front of the lent report area; the rest of it stays
 abbrev pub receptionOf : Table → List ℕ → Effect → Reception
@@ -179,6 +180,7 @@ receptionOf t report e =
       answer = record { table = withPlaces t (e .places); decision = e .decision; refusal = 0; records = length (e .records) };
       store = e .store;
       report = splice report 0 (recordsOctets (e .records));
+      made = e .records;
     }
 
 abbrev pub receivedAt : Table → List ℕ → List ℕ → ℕ → List ℕ → Reception
@@ -192,7 +194,7 @@ receivedAt t store report association s =
 
 -- a refusal returns its number, the table as it came, zero records, and no lent octet is altered
 abbrev pub unreceived : Table → List ℕ → List ℕ → ℕ → Reception
-unreceived t store report n = record { answer = record { table = t; decision = Refused; refusal = n; records = 0 }; store = store; report = report }
+unreceived t store report n = record { answer = record { table = t; decision = Refused; refusal = n; records = 0 }; store = store; report = report; made = [] }
 
 unfoldable pub segment : Table → List ℕ → List ℕ → ℕ → List ℕ → Reception
 segment t store report association s =

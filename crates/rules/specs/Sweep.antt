@@ -7,7 +7,7 @@ use lib.ListN.{length}
 use Rattle.octets.specs.Splice.{splice}
 use Rattle.rules.specs.General.{if_then_else_, those}
 use Rattle.rules.specs.Numbers.{placeCount, elapsed}
-use Rattle.rules.specs.Refusals.{Check, _when_, judged}
+use Rattle.rules.specs.Refusals.{Check, _when_}
 use Rattle.rules.specs.Records.{recordLength, recordsOctets, lost}
 use Rattle.rules.specs.Places.{isOpen, freePlace}
 use Rattle.rules.specs.Soundness.{sound}
@@ -28,10 +28,11 @@ lossesBy test cause ps = map (lossOf cause) (those test ps)
 abbrev pub freedBy : (Place → Bool) → Place → Place
 freedBy test p = if test p then freePlace else p
 
--- what a call leaves: its answer and the report area
+-- what a call leaves: its answer and the report area; and the records that it made
 pub record Sweeping : Type 0 where
   pub answer : Swept
   pub report : List ℕ
+  pub made : List Record
 
 -- the places that the test is for, lost at a time
 unfoldable pub sweep : (Place → Bool) → ℕ → ℕ → Table → List ℕ → Sweeping
@@ -44,6 +45,7 @@ sweep test cause time t report =
         records = length records;
       };
       report = splice report 0 (recordsOctets records);
+      made = records;
     }
 
 -- a report area holds a record of every place
@@ -51,7 +53,7 @@ abbrev pub reportLeast : ℕ
 reportLeast = placeCount * recordLength
 
 abbrev pub unswept : Table → List ℕ → ℕ → Sweeping
-unswept t report n = record { answer = record { table = t; refusal = n; records = 0 }; report = report }
+unswept t report n = record { answer = record { table = t; refusal = n; records = 0 }; report = report; made = [] }
 
 -- every sequence whose age is T or more
 abbrev pub isDue : ℕ → ℕ → Place → Bool
@@ -68,22 +70,22 @@ abbrev pub stepChecks : ℕ → ℕ → List Check
 stepChecks time clock =
     13 when leb (2 ^ 31) (elapsed time clock) ∷ []
 
--- Clock: 1, 3, 13
+-- Clock: 1, 3, 13, and the summary's: Summary
 unfoldable pub clockChecks : Table → List ℕ → ℕ → List Check
 clockChecks t report time = sweepChecks (sound t) (length report) ++ stepChecks time (t .clock)
 
 -- the time is stored and every sequence whose age is T or more gives Lost, cause 6
-unfoldable pub clock : Table → List ℕ → ℕ → Sweeping
-clock t report time = judged (clockChecks t report time) (unswept t report) (sweep (isDue time (t .timer)) 6 time t report)
+abbrev pub clockSweep : Table → List ℕ → ℕ → Sweeping
+clockSweep t report time = sweep (isDue time (t .timer)) 6 time t report
 
 -- every sequence of the association
 abbrev pub isOf : ℕ → Place → Bool
 isOf association p = isOpen p && eqb (p .key .association) association
 
--- Release: 1, 3
+-- Release: 1, 3, and the summary's: Summary
 unfoldable pub releaseChecks : Table → List ℕ → List Check
 releaseChecks t report = sweepChecks (sound t) (length report)
 
 -- every sequence of the association gives Lost, cause 7
-unfoldable pub release : Table → List ℕ → ℕ → Sweeping
-release t report association = judged (releaseChecks t report) (unswept t report) (sweep (isOf association) 7 (t .clock) t report)
+abbrev pub releaseSweep : Table → List ℕ → ℕ → Sweeping
+releaseSweep t report association = sweep (isOf association) 7 (t .clock) t report

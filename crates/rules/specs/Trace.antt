@@ -10,6 +10,7 @@ use Rattle.rules.specs.Numbers.{storeLeast}
 use Rattle.rules.specs.Layout.{octet}
 use Rattle.rules.specs.Sweep.{reportLeast}
 use Rattle.rules.specs.Opening.{unopened}
+use Rattle.rules.specs.Summary.{emptySummary}
 use Rattle.rules.specs.Calls.{State, stateOf, Call, toOpen, toArrive, toTick, toRelease, Lent, lending, Answer, Outcome, step}
 
 -- each is one kind octet and a body whose length the kind fixes
@@ -65,7 +66,7 @@ beginning =
     record {
       registry = [];
       begun = false;
-      state = stateOf unopened (replicate storeLeast 0);
+      state = stateOf unopened emptySummary (replicate storeLeast 0);
       lent = lending (replicate reportLeast 0) [];
     }
 

@@ -18,6 +18,13 @@ pub const PARAMETER: usize = 255;
 
 pub const ADDRESS: usize = 20;
 
+// A summary: so many rows, so many numbers in all, and the most that a total may become.
+pub const ROWS: usize = 64;
+
+pub const SUMMARY: usize = 8 * ROWS;
+
+pub const TOTAL: u64 = 9223372036854775808;
+
 // Segments remaining, local reference and context are separate numbers, and none stands for another.
 #[repr(C)]
 pub struct Remaining(pub u8);

@@ -12,8 +12,9 @@ use lib.ListN.{length, take, drop, length-take, length-drop}
 use lib.Seq.{take-all, drop-drop}
 use Rattle.octets.specs.Splice.{Wrote}
 use Rattle.octets.proofs.Splice.{splice-nil, splice-length, splice-tail, wrote-then}
-use Rattle.rules.specs.Calls.{stateOf, Lent}
+use Rattle.rules.specs.Calls.{Lent}
 use Rattle.rules.specs.Trace.{Observer}
+use Rattle.trace_events.specs.Events.{Stored, stateWith}
 use Rattle.trace_events.specs.declared.Replay.{Replay}
 use Rattle.trace_turns.specs.Turns.{Walked}
 use Rattle.trace_turns.proofs.Turning.{walked-none}
@@ -28,12 +29,12 @@ or-false true b e = (e, cc)
 or-false false b e = (refl, e)
 
 -- nothing there is nothing done
-pub turned-none : {M : Type 0} (o : Observer M) (m : M) (held : Replay) (store : List ℕ) (lent : Lent) (input : List ℕ) → length input ≡ 0
+pub turned-none : {M : Type 0} (o : Observer M) (m : M) (held : Replay) (store : Stored) (lent : Lent) (input : List ℕ) → length input ≡ 0
     → turned o m held store lent input ≡ resting o m held store lent
-turned-none o m held store lent input e = ap (turnOf o m (stateOf (held .table) store)) (walked-none held store lent input e)
+turned-none o m held store lent input e = ap (turnOf o m (stateWith (held .table) store)) (walked-none held store lent input e)
 
 -- the turns one by one
-module _ {M : Type 0} (o : Observer M) (room : ℕ) (m : M) (held : Replay) (store : List ℕ) (lent : Lent) (input : List ℕ) where
+module _ {M : Type 0} (o : Observer M) (room : ℕ) (m : M) (held : Replay) (store : Stored) (lent : Lent) (input : List ℕ) where
   pub runs-full : (n : ℕ) → room < toldMost → runs o n room m held store lent input ≡ resting o m held store lent
   unfolding runs
   runs-full zero h = refl
@@ -65,7 +66,7 @@ after-joined o lines used a b = rw (append-assoc lines (a .lines) (b .lines), ad
 
 module _ (o : Observer ℕ) where
   -- the loop of a block: so many octets are used and written, and the turns that are left give the rest; fuel is at least what is left of the input
-  pub record Going (want : Turned ℕ) (input out₀ store : List ℕ) (lent : Lent) (out : List ℕ) (replay : Replay) (events used written : ℕ) : Type 0 where
+  pub record Going (want : Turned ℕ) (input out₀ : List ℕ) (store : Stored) (lent : Lent) (out : List ℕ) (replay : Replay) (events used written : ℕ) : Type 0 where
     pub fuel : ℕ
     pub lines : List ℕ
     pub is : want ≡ after lines used (runs o fuel (length out₀ - written) events replay store lent (drop used input))
@@ -75,7 +76,7 @@ module _ (o : Observer ℕ) where
     pub same : length out ≡ length out₀
     pub wrote : Wrote out₀ 0 lines out written
 
-  pub going-starts : (events : ℕ) (held : Replay) (store : List ℕ) (lent : Lent) (input out : List ℕ)
+  pub going-starts : (events : ℕ) (held : Replay) (store : Stored) (lent : Lent) (input out : List ℕ)
       → Going (runs o (length input) (length out) events held store lent input) input out store lent out held events 0 0
   going-starts events held store lent input out =
       let z : length out - 0 ≡ length out = omega arith in
@@ -90,7 +91,7 @@ module _ (o : Observer ℕ) where
         wrote = record { place = refl; stored = sym (splice-nil out 0) };
       }
 
-  module _ {want : Turned ℕ} {input out₀ store : List ℕ} {lent : Lent} {out : List ℕ} {replay : Replay} {events used written : ℕ} (g : Going want input out₀ store lent out replay events used written) where
+  module _ {want : Turned ℕ} {input out₀ : List ℕ} {store : Stored} {lent : Lent} {out : List ℕ} {replay : Replay} {events used written : ℕ} (g : Going want input out₀ store lent out replay events used written) where
     pub going-full : length out - written < toldMost → OfTurn want out₀ (record { replay = replay; events = events; used = used; written = written; ended = false }) store lent out
     going-full h =
         let s = g .same in
@@ -102,7 +103,7 @@ module _ (o : Observer ℕ) where
     now = turned o events replay store lent (drop used input)
 
     -- a turn on what is left of the input, into what is left of the area
-    module _ (h : toldMost ≤ length out - written) (answer : Progress) (store′ : List ℕ) (lent′ : Lent) (part : List ℕ)
+    module _ (h : toldMost ≤ length out - written) (answer : Progress) (store′ : Stored) (lent′ : Lent) (part : List ℕ)
         (t : OfTurn (turned o events replay store lent (take (length input - used) (drop used input))) (midOf written (length out - written) out) answer store′ lent′ part)
         (u : answer .used ≤ length (take (length input - used) (drop used input))) (w : answer .written ≤ toldMost) where
       abbrev out′ : List ℕ

@@ -9,12 +9,12 @@ use lib.Dec.{eqb, ltb}
 use lib.ListN.{length, take, drop, length-append, length-drop}
 use lib.Seq.{drop-drop, length-take-le}
 use Rattle.rules.specs.General.{if_then_else_}
-use Rattle.rules.specs.Calls.{State, stateOf, Lent, Outcome, step}
+use Rattle.rules.specs.Calls.{State, Lent, Outcome, step}
 use Rattle.rules.specs.Trace.{Event, Opening, Segment, Clock, Release, Item, Registers, Happens, isKnown, bodyLength, itemOf, itemsOf, callOf, happened, registered, Sight, sightOf}
 use Rattle.rules.specs.Trace.{Observer, watched, watching}
 use Rattle.rules.specs.Trace as trace
 use Rattle.trace_items.proofs.Items.{item-by, items-next}
-use Rattle.trace_events.specs.Events.{replayOf, stepOf, keeping}
+use Rattle.trace_events.specs.Events.{Stored, stateWith, replayOf, stepOf, keeping}
 use Rattle.trace_events.specs.declared.Replay.{Replay}
 use Rattle.trace_turns.specs.Turns.{Registering, Walked, waiting, stopping, registering, happening, atItem, walked}
 use Rattle.trace_turns.proofs.Keeping.{opening-nine, Kept, kept-more}
@@ -23,14 +23,14 @@ use Rattle.trace.specs.Whole.{Shows, begins, allOf, watchedFrom, Follows
 use Rattle.trace.proofs.Running.{isOver, or-false, turned-none, runs-over, runs-more}
 
 -- what is held, with the whole registry as read
-abbrev over : List ℕ → Replay → List ℕ → Lent → trace.Replay
-over l held store lent = record { registry = l; begun = held .begun; state = stateOf (held .table) store; lent = lent }
+abbrev over : List ℕ → Replay → Stored → Lent → trace.Replay
+over l held store lent = record { registry = l; begun = held .begun; state = stateWith (held .table) store; lent = lent }
 
 unless : (b : Bool) (x y : List ℕ) → (b ≡ false → x ≡ y) → (if b then [] else x) ≡ (if b then [] else y)
 unless true x y e = refl
 unless false x y e = e refl
 
-kept-of : {held : Replay} {store : List ℕ} {lent : Lent} {r : trace.Replay} → Shows held store lent r → Kept held (r .registry)
+kept-of : {held : Replay} {store : Stored} {lent : Lent} {r : trace.Replay} → Shows held store lent r → Kept held (r .registry)
 kept-of s = record { is = s .registry; most = s .most; area = s .area; whole = s .whole }
 
 -- each turn of the program uses an octet or a read
@@ -39,15 +39,15 @@ left-over left reads = length left + length (allOf reads) + length reads
 
 module _ {M : Type 0} (o : Observer M) where
   -- a turn on one item
-  record Prints (l : List ℕ) (m : M) (held : Replay) (store : List ℕ) (lent : Lent) (item : Item) (used : ℕ) (t : Turned M) : Type 0 where
+  record Prints (l : List ℕ) (m : M) (held : Replay) (store : Stored) (lent : Lent) (item : Item) (used : ℕ) (t : Turned M) : Type 0 where
     registry : List ℕ
     kept : Kept (t .held) registry
     uses : t .ended ≡ false → t .used ≡ used
     prints : (items : List Item) → watched o m (over l held store lent) (item ∷ items) ≡ t .lines ++ (if t .ended then [] else watched o (t .memory) (over registry (t .held) (t .store) (t .lent)) items)
 
-  module _ (l : List ℕ) (m : M) (held : Replay) (store : List ℕ) (lent : Lent) (k : Kept held l) where
+  module _ (l : List ℕ) (m : M) (held : Replay) (store : Stored) (lent : Lent) (k : Kept held l) where
     abbrev here : State
-    here = stateOf (held .table) store
+    here = stateWith (held .table) store
 
     same-step : (e : Event) → step here (callOf (over l held store lent) e) ≡ stepOf held store lent e
     unfolding step
@@ -104,13 +104,13 @@ module _ {M : Type 0} (o : Observer M) where
         (λ x. event-prints x (1 + bodyLength kind)) (λ two. two-octets kind body (1 + bodyLength kind) (e ∙ two) (omega arith))
 
   -- what is done with the front of an input
-  record Goes (l : List ℕ) (m : M) (held : Replay) (store : List ℕ) (lent : Lent) (input : List ℕ) (t : Turned M) : Type 0 where
+  record Goes (l : List ℕ) (m : M) (held : Replay) (store : Stored) (lent : Lent) (input : List ℕ) (t : Turned M) : Type 0 where
     registry : List ℕ
     kept : Kept (t .held) registry
     prints : (rest : List ℕ) → watchedFrom o m (over l held store lent) (input ++ rest)
         ≡ t .lines ++ (if t .ended then [] else watchedFrom o (t .memory) (over registry (t .held) (t .store) (t .lent)) (drop (t .used) input ++ rest))
 
-  module _ (l : List ℕ) (m : M) (held : Replay) (store : List ℕ) (lent : Lent) (k : Kept held l) where
+  module _ (l : List ℕ) (m : M) (held : Replay) (store : Stored) (lent : Lent) (k : Kept held l) where
     rests-go : (input : List ℕ) → Goes l m held store lent input (resting o m held store lent)
     rests-go input = record { registry = l; kept = k; prints = λ rest. refl }
 
@@ -124,13 +124,13 @@ module _ {M : Type 0} (o : Observer M) where
 
         go : (a : Bool) → isKnown kind ≡ a → (b : Bool) → ltb (length s) bl ≡ b
             → Goes l m held store lent (kind ∷ s)
-            (turnOf o m (stateOf (held .table) store) (if not a then stopping held store lent else if b then waiting held store lent else atItem held store lent (itemOf kind (take bl s)) (1 + bl)))
-        go false e b f = record { registry = l; kept = k; prints = λ rest. simp e (sym (append-nil (o .ends m (stateOf (held .table) store) true))) }
+            (turnOf o m (stateWith (held .table) store) (if not a then stopping held store lent else if b then waiting held store lent else atItem held store lent (itemOf kind (take bl s)) (1 + bl)))
+        go false e b f = record { registry = l; kept = k; prints = λ rest. simp e (sym (append-nil (o .ends m (stateWith (held .table) store) true))) }
         go true e true f = rests-go (kind ∷ s)
         go true e false f =
             let h : bl ≤ length s = ltb-false (length s) bl f in
             let p = item-prints l m held store lent k kind (take bl s) (length-take-le bl s h) in
-            let t : Turned M = turnOf o m (stateOf (held .table) store) (atItem held store lent (itemOf kind (take bl s)) (1 + bl)) in
+            let t : Turned M = turnOf o m (stateWith (held .table) store) (atItem held store lent (itemOf kind (take bl s)) (1 + bl)) in
             let one : 1 + bl ≡ suc bl = omega arith in
             let next : List ℕ → List ℕ = watchedFrom o (t .memory) (over (p .registry) (t .held) (t .store) (t .lent)) in
             record {
@@ -142,7 +142,7 @@ module _ {M : Type 0} (o : Observer M) where
                   ∙ ap (λ (x : List ℕ). t .lines ++ x) (unless (t .ended) (next (drop bl s ++ rest)) (next (drop (t .used) (kind ∷ s) ++ rest)) (λ n. rw (p .uses n, one)));
             }
 
-  runs-go : (n room : ℕ) (l : List ℕ) (m : M) (held : Replay) (store : List ℕ) (lent : Lent) (input : List ℕ) → Kept held l → Goes l m held store lent input (runs o n room m held store lent input)
+  runs-go : (n room : ℕ) (l : List ℕ) (m : M) (held : Replay) (store : Stored) (lent : Lent) (input : List ℕ) → Kept held l → Goes l m held store lent input (runs o n room m held store lent input)
   unfolding runs
   runs-go zero room l m held store lent input k = rests-go l m held store lent k input
   runs-go (suc n) room l m held store lent input k =
@@ -171,7 +171,7 @@ module _ {M : Type 0} (o : Observer M) where
           }
 
   -- where nothing is used, a turn waits for more; where none comes, the rule ends with what is left
-  end-is : (l : List ℕ) (m : M) (held : Replay) (store : List ℕ) (lent : Lent) (input : List ℕ) → Kept held l → turned o m held store lent input .used ≡ 0 → turned o m held store lent input .ended ≡ false
+  end-is : (l : List ℕ) (m : M) (held : Replay) (store : Stored) (lent : Lent) (input : List ℕ) → Kept held l → turned o m held store lent input .used ≡ 0 → turned o m held store lent input .ended ≡ false
       → (turned o m held store lent input ≡ resting o m held store lent) × (watchedFrom o m (over l held store lent) input ≡ endOf o m held store (length input))
   unfolding walked watched
   end-is l m held store lent [] k u e = (refl, refl)
@@ -185,12 +185,12 @@ module _ {M : Type 0} (o : Observer M) where
 
       turn : Bool → Bool → Turned M
       turn a b =
-          turnOf o m (stateOf (held .table) store) (if not a then stopping held store lent else if b then waiting held store lent else atItem held store lent (itemOf kind (take bl s)) (1 + bl))
+          turnOf o m (stateWith (held .table) store) (if not a then stopping held store lent else if b then waiting held store lent else atItem held store lent (itemOf kind (take bl s)) (1 + bl))
 
       go : (a : Bool) → isKnown kind ≡ a → (b : Bool) → ltb (length s) bl ≡ b → turn a b .used ≡ 0 → turn a b .ended ≡ false
           → (turn a b ≡ resting o m held store lent) × (watchedFrom o m (over l held store lent) (kind ∷ s) ≡ endOf o m held store (length (kind ∷ s)))
       go false p b q u e = let z : _≡_ {A = ℕ} 0 1 = cc in let y : ⊥ = omega arith in absurd y
-      go true p true q u e = let h = ltb-true (length s) bl q in (refl, simp (p, lt-leb bl (length s) h) (ap (λ (b : Bool). o .ends m (stateOf (held .table) store) (not b)) (sym some)))
+      go true p true q u e = let h = ltb-true (length s) bl q in (refl, simp (p, lt-leb bl (length s) h) (ap (λ (b : Bool). o .ends m (stateWith (held .table) store) (not b)) (sym some)))
       go true p false q u e =
           let h : bl ≤ length s = ltb-false (length s) bl q in
           let n = item-prints l m held store lent k kind (take bl s) (length-take-le bl s h) .uses e in
@@ -211,7 +211,7 @@ module _ {M : Type 0} (o : Observer M) where
       ap (λ (x : trace.Replay). watchedFrom o m x input) (s .is) ∙ end-is (r .registry) m held store lent input (kept-of s) u e .1
 
   -- a block that uses nothing and does not end is a turn that waits
-  block-waits : (room : ℕ) (m : M) (held : Replay) (store : List ℕ) (lent : Lent) (input : List ℕ) (r : trace.Replay) → Shows held store lent r → toldMost ≤ room
+  block-waits : (room : ℕ) (m : M) (held : Replay) (store : Stored) (lent : Lent) (input : List ℕ) (r : trace.Replay) → Shows held store lent r → toldMost ≤ room
       → runs o (length input) room m held store lent input .used ≡ 0 → runs o (length input) room m held store lent input .ended ≡ false
       → (runs o (length input) room m held store lent input ≡ resting o m held store lent) × (watchedFrom o m r input ≡ endOf o m held store (length input))
   unfolding runs
@@ -238,7 +238,7 @@ module _ {M : Type 0} (o : Observer M) where
           let q = eqb-false (t .used) 0 (or-false (t .ended) (eqb (t .used) 0) v .1) in
           let z : ⊥ = omega (arith, u, n, q) in absurd z
 
-  next-read : (n room : ℕ) (m : M) (held : Replay) (store : List ℕ) (lent : Lent) (left : List ℕ) (r : trace.Replay) (reads : List (List ℕ)) → watchedFrom o m r left ≡ endOf o m held store (length left)
+  next-read : (n room : ℕ) (m : M) (held : Replay) (store : Stored) (lent : Lent) (left : List ℕ) (r : trace.Replay) (reads : List (List ℕ)) → watchedFrom o m r left ≡ endOf o m held store (length left)
       → left-over left reads < suc n
       → ((more : List ℕ) (rest : List (List ℕ)) → left-over more rest < n → session o n room m held store lent more rest ≡ watchedFrom o m r (more ++ allOf rest))
       → behind o (session o n room m held store lent) (endOf o m held store (length left)) left reads ≡ watchedFrom o m r (left ++ allOf reads)
@@ -248,12 +248,12 @@ module _ {M : Type 0} (o : Observer M) where
       let b = length-append x (allOf xs) in
       ih (left ++ x) xs (omega arith) ∙ rw (append-assoc left x (allOf xs))
 
-  some-used : (room : ℕ) (m : M) (held : Replay) (store : List ℕ) (lent : Lent) (input : List ℕ) → (runs o (length input) room m held store lent input .used ≡ 0 → ⊥) → 1 ≤ length input
+  some-used : (room : ℕ) (m : M) (held : Replay) (store : Stored) (lent : Lent) (input : List ℕ) → (runs o (length input) room m held store lent input .used ≡ 0 → ⊥) → 1 ≤ length input
   unfolding runs
   some-used room m held store lent [] h = absurd (h refl)
   some-used room m held store lent (kind ∷ l) h = omega arith
 
-  session-is : (n room : ℕ) → toldMost ≤ room → (m : M) (held : Replay) (store : List ℕ) (lent : Lent) (left : List ℕ) (reads : List (List ℕ)) (r : trace.Replay) → Shows held store lent r
+  session-is : (n room : ℕ) → toldMost ≤ room → (m : M) (held : Replay) (store : Stored) (lent : Lent) (left : List ℕ) (reads : List (List ℕ)) (r : trace.Replay) → Shows held store lent r
       → left-over left reads < n → session o n room m held store lent left reads ≡ watchedFrom o m r (left ++ allOf reads)
   unfolding session
   session-is zero room h m held store lent left reads r s q = let z : ⊥ = omega arith in absurd z
@@ -268,7 +268,7 @@ module _ {M : Type 0} (o : Observer M) where
       f : Follows o m r left t
       f = by-blocks (length left) room m held store lent left r s
 
-      go : ((m : M) (held : Replay) (store : List ℕ) (lent : Lent) (left : List ℕ) (reads : List (List ℕ)) (r : trace.Replay) → Shows held store lent r
+      go : ((m : M) (held : Replay) (store : Stored) (lent : Lent) (left : List ℕ) (reads : List (List ℕ)) (r : trace.Replay) → Shows held store lent r
           → left-over left reads < n → session o n room m held store lent left reads ≡ watchedFrom o m r (left ++ allOf reads))
           → (a : Bool) → t .ended ≡ a → (b : Bool) → eqb (t .used) 0 ≡ b
           → t .lines ++ (if a then [] else if b then behind o on (endOf o (t .memory) (t .held) (t .store) (length left)) left reads else on (drop (t .used) left) reads) ≡ watchedFrom o m r (left ++ allOf reads)

@@ -11,16 +11,17 @@ use Rattle.rules.specs.Numbers.{storeLeast}
 use Rattle.rules.specs.Registry.{isCut}
 use Rattle.rules.specs.Opening.{unopened}
 use Rattle.rules.specs.Sweep.{reportLeast}
-use Rattle.rules.specs.Calls.{stateOf, Lent, lending}
+use Rattle.rules.specs.Summary.{emptySummary}
+use Rattle.rules.specs.Calls.{Lent, lending}
 use Rattle.rules.specs.Trace.{itemsOf, Observer, watched, watching}
 use Rattle.rules.specs.Trace as trace
-use Rattle.trace_events.specs.Events.{registryOf}
+use Rattle.trace_events.specs.Events.{Stored, storedOf, stateWith, registryOf}
 use Rattle.trace_events.specs.declared.Replay.{Replay}
 use Rattle.trace.specs.Watching.{Turned, turned, toldMost, runs, endOf}
 
 -- what the code holds is a replay r of the rule, but that of the registry as read only the first nine records are kept; no record of it is cut
-pub record Shows (held : Replay) (store : List ℕ) (lent : Lent) (r : trace.Replay) : Type 0 where
-  pub is : r ≡ record { registry = r .registry; begun = held .begun; state = stateOf (held .table) store; lent = lent }
+pub record Shows (held : Replay) (store : Stored) (lent : Lent) (r : trace.Replay) : Type 0 where
+  pub is : r ≡ record { registry = r .registry; begun = held .begun; state = stateWith (held .table) store; lent = lent }
   pub registry : registryOf held ≡ take 27 (r .registry)
   pub most : held .length ≤ 27
   pub area : length (held .registry) ≡ 27
@@ -48,12 +49,12 @@ module _ {M : Type 0} (o : Observer M) where
   -- 1. a block: any number of turns, any room, any input
   abbrev pub ByBlocks : Type 0
   ByBlocks =
-      (n room : ℕ) (m : M) (held : Replay) (store : List ℕ) (lent : Lent) (input : List ℕ) (r : trace.Replay) → Shows held store lent r → Follows m r input (runs o n room m held store lent input)
+      (n room : ℕ) (m : M) (held : Replay) (store : Stored) (lent : Lent) (input : List ℕ) (r : trace.Replay) → Shows held store lent r → Follows m r input (runs o n room m held store lent input)
 
   -- 2. the end of the input, once a turn waits for more: what is left is nothing or a cut record
   abbrev pub AtEnd : Type 0
   AtEnd =
-      (m : M) (held : Replay) (store : List ℕ) (lent : Lent) (input : List ℕ) (r : trace.Replay) → Shows held store lent r
+      (m : M) (held : Replay) (store : Stored) (lent : Lent) (input : List ℕ) (r : trace.Replay) → Shows held store lent r
       → turned o m held store lent input .used ≡ 0 → turned o m held store lent input .ended ≡ false → watchedFrom m r input ≡ endOf o m held store (length input)
 
   -- the program's turns, so many at most: a block of what is there, its lines, and on with what is left; where nothing was used, with what is read next behind it, or to the end
@@ -61,7 +62,7 @@ module _ {M : Type 0} (o : Observer M) where
   behind on end left [] = end
   behind on end left (octets ∷ reads) = on (left ++ octets) reads
 
-  unfoldable pub session : ℕ → ℕ → M → Replay → List ℕ → Lent → List ℕ → List (List ℕ) → List ℕ
+  unfoldable pub session : ℕ → ℕ → M → Replay → Stored → Lent → List ℕ → List (List ℕ) → List ℕ
   session zero room m held store lent left reads = []
   session (suc n) room m held store lent left reads =
       let t : Turned M = runs o (length left) room m held store lent left in
@@ -73,8 +74,8 @@ module _ {M : Type 0} (o : Observer M) where
   abbrev pub OfAll : Type 0
   OfAll =
       (n room : ℕ) (m : M) (reads : List (List ℕ)) → toldMost ≤ room → length (allOf reads) + length reads < n
-      → session n room m begins (replicate storeLeast 0) (lending (replicate reportLeast 0) []) [] reads ≡ watching o m (allOf reads)
+      → session n room m begins (storedOf emptySummary (replicate storeLeast 0)) (lending (replicate reportLeast 0) []) [] reads ≡ watching o m (allOf reads)
 
 -- 3. the beginning
 abbrev pub AtBeginning : Type 0
-AtBeginning = Shows begins (replicate storeLeast 0) (lending (replicate reportLeast 0) []) trace.beginning
+AtBeginning = Shows begins (storedOf emptySummary (replicate storeLeast 0)) (lending (replicate reportLeast 0) []) trace.beginning

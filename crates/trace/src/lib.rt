@@ -4,22 +4,25 @@ use trace_events::Replay;
 use trace_items::Happening;
 use trace_turns::Met;
 ghost use mathlib.Core.Path.{_≡_};
+ghost use mathlib.Core.Bool.{true};
 ghost use mathlib.Core.List.{List, []};
 ghost use Prim.Native.Nat.{ℕ, _*_, _≤_};
 ghost use lib.ListN.{length};
 ghost use Rattle.octets.specs.Splice.{Wrote};
 ghost use Rattle.rules.specs.Calls.{lending};
 ghost use Rattle.rules.specs.Lines.{counted};
+ghost use Rattle.trace_events.specs.Events.{storedOf};
 ghost use Rattle.trace_turns.specs.Turns.{Fits};
-ghost use Rattle.trace.specs.Watching.{observerOf, endedBy, eventBy, toldBy, countBy, stopsAt, OfTurn, turned, runs, endOf};
+ghost use Rattle.trace.specs.Watching.{observerOf, endedBy, opensNext, firstIf, eventBy, toldBy, Begins, countBy, stopsAt, OfTurn, turned, runs, endOf};
 
 // What a turn prints is no longer than this: so much room there has to be for one more.
-const TOLD: usize = 8192;
+const TOLD: usize = 16384;
 
-// Who watches: replay prints a line for each event, records prints every record too.
+// Who watches: replay prints a line for each event, records prints every record too, totals prints what each opening's rows came to.
 pub enum Watcher {
     Lines,
     Records,
+    Totals,
 }
 
 // What was done with the front of an input: so many of its octets are used, so many are written, and the trace has stopped or goes on. events is the number of the last event.
@@ -31,14 +34,54 @@ pub struct Progress {
     pub ended: bool,
 }
 
-// The end, at a table with these places.
-fn tell_end(which: Watcher, places: [Place; 16], stops: bool, out: &mut [u8]) -> usize
-    ensures { λ r. ⌜ Wrote (now (out .entry)) 0 (endedBy which places «stops») (now (out .exit)) r ⌝ }
-    ensures { λ r. ⌜ r ≤ 8192 ⌝ }
+// The end, at a table with these places, and a summary.
+fn tell_end(
+    which: Watcher,
+    places: [Place; 16],
+    m: &[u64; rules::SUMMARY],
+    stops: bool,
+    out: &mut [u8],
+) -> usize
+    ensures { λ r. ⌜ Wrote (now (out .entry)) 0 (endedBy which places (now (m .entry)) «stops») (now (out .exit)) r ⌝ }
+    ensures { λ r. ⌜ r ≤ 16384 ⌝ }
 {
     match which {
         Watcher::Lines => trace_lines::put_end(out, 0, stops),
         Watcher::Records => trace_records::put_end(out, places, stops),
+        Watcher::Totals => trace_totals::put_end(out, m, stops),
+    }
+}
+
+// Whether a whole opening is at the front of an input.
+fn opens_next(input: &[u8]) -> bool
+    ensures { λ r. ⌜ r ≡ opensNext (now (input .entry)) ⌝ }
+{
+    if input.len() < 9 {
+        return false;
+    }
+    input[0] == 32
+}
+
+// The rows, where an opening is about to empty them.
+fn tell_rows(m: &[u64; rules::SUMMARY], input: &[u8], out: &mut [u8]) -> usize
+    ensures { λ r. ⌜ Wrote (now (out .entry)) 0 (firstIf Watcher.Totals (opensNext (now (input .entry))) (now (m .entry))) (now (out .exit)) r ⌝ }
+    ensures { λ r. ⌜ r ≤ 9408 ⌝ }
+{
+    if opens_next(input) {
+        return trace_totals::put_rows(out, 0, m);
+    }
+    0
+}
+
+// What is printed before the call of the record at the front of an input.
+fn tell_first(which: Watcher, m: &[u64; rules::SUMMARY], input: &[u8], out: &mut [u8]) -> usize
+    ensures { λ r. ⌜ Wrote (now (out .entry)) 0 (firstIf which (opensNext (now (input .entry))) (now (m .entry))) (now (out .exit)) r ⌝ }
+    ensures { λ r. ⌜ Begins which r ⌝ }
+{
+    match which {
+        Watcher::Lines => 0,
+        Watcher::Records => 0,
+        Watcher::Totals => tell_rows(m, input, out),
     }
 }
 
@@ -49,6 +92,18 @@ fn next_event(events: u64) -> u64
     std::num::wrapping_add_u64(events, 1)
 }
 
+// The heading of an opening; of another event nothing.
+fn tell_heading(events: u64, h: Happening, at: usize, out: &mut [u8]) -> usize
+    requires { ⌜ at ≤ 9408 ⌝ }
+    ensures { λ r. ⌜ Wrote (now (out .entry)) at (eventBy Watcher.Totals events [] h []) (now (out .exit)) r ⌝ }
+    ensures { λ r. ⌜ r ≤ 16384 ⌝ }
+{
+    if h.kind == 32 {
+        return trace_totals::put_heading(out, at, next_event(events), h.refusal);
+    }
+    at
+}
+
 // An event that met a table with these places.
 fn tell_event(
     which: Watcher,
@@ -56,36 +111,40 @@ fn tell_event(
     places: [Place; 16],
     h: Happening,
     report: &[u8],
+    at: usize,
     out: &mut [u8],
 ) -> usize
-    requires { ⌜ (h .records ≤ 16) × (32 * h .records ≤ length (now report)) ⌝ }
-    ensures { λ r. ⌜ Wrote (now (out .entry)) 0 (eventBy which events places h (now (report .entry))) (now (out .exit)) r ⌝ }
-    ensures { λ r. ⌜ r ≤ 8192 ⌝ }
+    requires { ⌜ (h .records ≤ 16) × ((32 * h .records ≤ length (now report)) × Begins which at) ⌝ }
+    ensures { λ r. ⌜ Wrote (now (out .entry)) at (eventBy which events places h (now (report .entry))) (now (out .exit)) r ⌝ }
+    ensures { λ r. ⌜ r ≤ 16384 ⌝ }
 {
     match which {
         Watcher::Lines => trace_lines::put_line(out, h.kind, h.refusal, h.records, report),
         Watcher::Records => trace_records::put_event(out, next_event(events), h, report, places),
+        Watcher::Totals => tell_heading(events, h, at, out),
     }
 }
 
-// What the front of an input was met as, at a table with these places.
+// What the front of an input was met as, at a table with these places, behind what was printed before.
 fn tell(
     which: Watcher,
     events: u64,
     places: [Place; 16],
+    m: &[u64; rules::SUMMARY],
     met: Met,
     report: &[u8],
+    at: usize,
     out: &mut [u8],
 ) -> usize
-    requires { ⌜ Fits met (now report) ⌝ }
-    ensures { λ r. ⌜ Wrote (now (out .entry)) 0 (toldBy which events places met (now (report .entry))) (now (out .exit)) r ⌝ }
-    ensures { λ r. ⌜ r ≤ 8192 ⌝ }
+    requires { ⌜ Fits met (now report) × (Begins which at × (stopsAt met ≡ true → at ≡ 0)) ⌝ }
+    ensures { λ r. ⌜ Wrote (now (out .entry)) at (toldBy which events places (now (m .entry)) met (now (report .entry))) (now (out .exit)) r ⌝ }
+    ensures { λ r. ⌜ r ≤ 16384 ⌝ }
 {
     match met {
-        Met::Waits => 0,
-        Met::Stops => tell_end(which, places, true, out),
-        Met::Registers => 0,
-        Met::Happens(h) => tell_event(which, events, places, h, report, out),
+        Met::Waits => at,
+        Met::Stops => tell_end(which, places, m, true, out),
+        Met::Registers => at,
+        Met::Happens(h) => tell_event(which, events, places, h, report, at, out),
     }
 }
 
@@ -118,18 +177,20 @@ fn step(
     which: Watcher,
     events: u64,
     held: Replay,
+    m: &mut [u64; rules::SUMMARY],
     store: &mut [u8],
     report: &mut [u8],
     input: &[u8],
     out: &mut [u8],
 ) -> Progress
-    ensures { λ r. ⌜ OfTurn (turned (observerOf which) events held (now (store .entry)) (lending (now (report .entry)) []) (now (input .entry))) (now (out .entry)) r (now (store .exit)) (lending (now (report .exit)) []) (now (out .exit)) ⌝ }
-    ensures { λ r. ⌜ (r .used ≤ length (now (input .entry))) × (r .written ≤ 8192) ⌝ }
+    ensures { λ r. ⌜ OfTurn (turned (observerOf which) events held (storedOf (now (m .entry)) (now (store .entry))) (lending (now (report .entry)) []) (now (input .entry))) (now (out .entry)) r (storedOf (now (m .exit)) (now (store .exit))) (lending (now (report .exit)) []) (now (out .exit)) ⌝ }
+    ensures { λ r. ⌜ (r .used ≤ length (now (input .entry))) × (r .written ≤ 16384) ⌝ }
 {
     let places = held.table.places;
-    let w = trace_turns::turn(held, store, report, input);
+    let first = tell_first(which, m, input, out);
+    let w = trace_turns::turn(held, m, store, report, input);
     let met = w.met;
-    let written = tell(which, events, places, met, report, out);
+    let written = tell(which, events, places, m, met, report, first, out);
     let replay = w.replay;
     Progress {
         replay,
@@ -145,12 +206,13 @@ pub fn block(
     which: Watcher,
     first: u64,
     held: Replay,
+    m: &mut [u64; rules::SUMMARY],
     store: &mut [u8],
     report: &mut [u8],
     input: &[u8],
     out: &mut [u8],
 ) -> Progress
-    ensures { λ r. ⌜ OfTurn (runs (observerOf which) (length (now (input .entry))) (length (now (out .entry))) first held (now (store .entry)) (lending (now (report .entry)) []) (now (input .entry))) (now (out .entry)) r (now (store .exit)) (lending (now (report .exit)) []) (now (out .exit)) ⌝ }
+    ensures { λ r. ⌜ OfTurn (runs (observerOf which) (length (now (input .entry))) (length (now (out .entry))) first held (storedOf (now (m .entry)) (now (store .entry))) (lending (now (report .entry)) []) (now (input .entry))) (now (out .entry)) r (storedOf (now (m .exit)) (now (store .exit))) (lending (now (report .exit)) []) (now (out .exit)) ⌝ }
     ensures { λ r. ⌜ (r .used ≤ length (now (input .entry))) × (r .written ≤ length (now (out .entry))) ⌝ }
 {
     let mut replay = held;
@@ -162,6 +224,7 @@ pub fn block(
             which,
             events,
             replay,
+            m,
             store,
             report,
             &input[used..],
@@ -192,10 +255,16 @@ pub fn block(
 }
 
 // Where the input has ended: what is left of it is a cut record, and stops.
-pub fn ending(which: Watcher, held: Replay, left: usize, out: &mut [u8]) -> usize
-    ensures { λ r. ⌜ ((events : ℕ) (store : List ℕ) → Wrote (now (out .entry)) 0 (endOf (observerOf which) events held store left) (now (out .exit)) r) ⌝ }
-    ensures { λ r. ⌜ r ≤ 8192 ⌝ }
+pub fn ending(
+    which: Watcher,
+    held: Replay,
+    m: &[u64; rules::SUMMARY],
+    left: usize,
+    out: &mut [u8],
+) -> usize
+    ensures { λ r. ⌜ ((events : ℕ) (store : List ℕ) → Wrote (now (out .entry)) 0 (endOf (observerOf which) events held (storedOf (now (m .entry)) store) left) (now (out .exit)) r) ⌝ }
+    ensures { λ r. ⌜ r ≤ 16384 ⌝ }
 {
     let places = held.table.places;
-    tell_end(which, places, left != 0, out)
+    tell_end(which, places, m, left != 0, out)
 }

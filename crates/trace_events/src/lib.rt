@@ -8,12 +8,13 @@ ghost use mathlib.Core.Path.{_≡_};
 ghost use mathlib.Core.List.{[]};
 ghost use lib.ListN.{take, drop};
 ghost use Rattle.rules.specs.Opening.{opening};
+ghost use Rattle.rules.specs.Summary.{emptySummary};
 ghost use Rattle.rules.specs.Calls.{lending};
 ghost use Rattle.rules.specs.Promises.{OfSegment};
 ghost use Rattle.trace_items.specs.Reading.{eventMeant};
-ghost use Rattle.trace_events.specs.Events.{registryOf, answerOpened, answerSwept, OfEvent, keeping};
+ghost use Rattle.trace_events.specs.Events.{storedOf, registryOf, answerOpened, answerSwept, OfEvent, keeping};
 
-// What a replay hands on beside the store and the report area. Of the registry as read nine records are kept: with nine an open is refused as with more.
+// What a replay hands on beside the summary, the store and the report area. Of the registry as read nine records are kept: with nine an open is refused as with more.
 pub struct Replay {
     pub registry: [u8; 27],
     pub length: usize,
@@ -22,11 +23,11 @@ pub struct Replay {
 }
 
 // What an event answers has the shape of a segment's answer; an opening makes no record. Every open uses the whole registry as read.
-fn open(held: Replay, timer: u32, clock: u32) -> Received
-    ensures { λ r. ⌜ r ≡ answerOpened (opening (registryOf held) timer clock) ⌝ }
+fn open(held: Replay, m: &mut [u64; rules::SUMMARY], timer: u32, clock: u32) -> Received
+    ensures { λ r. ⌜ (r ≡ answerOpened (opening (registryOf held) timer clock)) × (now (m .exit) ≡ emptySummary) ⌝ }
 {
     let registry = held.registry;
-    let r = opening::opening(octets::part(&registry, 0, held.length), timer, clock);
+    let r = opening::opening(m, octets::part(&registry, 0, held.length), timer, clock);
     let table = r.table;
     Received {
         table,
@@ -39,16 +40,17 @@ fn open(held: Replay, timer: u32, clock: u32) -> Received
 // The event of a segment: its octets are those of the body that count.
 fn arrive(
     t: Table,
+    m: &mut [u64; rules::SUMMARY],
     store: &mut [u8],
     report: &mut [u8],
     association: u16,
     length: u8,
     body: &[u8],
 ) -> Received
-    ensures { λ r. ⌜ OfSegment t (now (store .entry)) (now (report .entry)) association (take length (drop 3 (now (body .entry)))) r (now (store .exit)) (now (report .exit)) ⌝ }
+    ensures { λ r. ⌜ OfSegment t (now (m .entry)) (now (store .entry)) (now (report .entry)) association (take length (drop 3 (now (body .entry)))) r (now (m .exit)) (now (store .exit)) (now (report .exit)) ⌝ }
 {
     let s = octets::part(body, 3, length as usize);
-    receiver::segment(t, store, report, association, s)
+    receiver::segment(t, m, store, report, association, s)
 }
 
 // The answer of a sweep, which decides nothing.
@@ -65,18 +67,25 @@ fn swept(s: Swept) -> Received
 }
 
 // An event, by its call.
-pub fn happen(held: Replay, store: &mut [u8], report: &mut [u8], e: Event, body: &[u8]) -> Received
-    ensures { λ r. ⌜ OfEvent held (now (store .entry)) (lending (now (report .entry)) []) (eventMeant e (now (body .entry))) r (now (store .exit)) (lending (now (report .exit)) []) ⌝ }
+pub fn happen(
+    held: Replay,
+    m: &mut [u64; rules::SUMMARY],
+    store: &mut [u8],
+    report: &mut [u8],
+    e: Event,
+    body: &[u8],
+) -> Received
+    ensures { λ r. ⌜ OfEvent held (storedOf (now (m .entry)) (now (store .entry))) (lending (now (report .entry)) []) (eventMeant e (now (body .entry))) r (storedOf (now (m .exit)) (now (store .exit))) (lending (now (report .exit)) []) ⌝ }
 {
     let table = held.table;
     match e {
-        Event::Open { timer, clock } => open(held, timer, clock),
+        Event::Open { timer, clock } => open(held, m, timer, clock),
         Event::Segment {
             association,
             length,
-        } => arrive(table, store, report, association, length, body),
-        Event::Clock(time) => swept(receiver::clock(table, report, time)),
-        Event::Release(association) => swept(receiver::release(table, report, association)),
+        } => arrive(table, m, store, report, association, length, body),
+        Event::Clock(time) => swept(receiver::clock(table, m, report, time)),
+        Event::Release(association) => swept(receiver::release(table, m, report, association)),
     }
 }
 

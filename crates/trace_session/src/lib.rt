@@ -58,11 +58,12 @@ fn refill(
     unwritten: &[u8],
     replay: Replay,
     events: u64,
+    m: &[u64; rules::SUMMARY],
     input: &mut [u8],
     have: usize,
     out: &mut [u8],
 ) -> Session
-    requires { ⌜ (have ≤ length (now input)) × (8192 ≤ length (now out)) ⌝ }
+    requires { ⌜ (have ≤ length (now input)) × (16384 ≤ length (now out)) ⌝ }
     ensures { λ r. ⌜ r .have ≤ length (now (input .entry)) ⌝ }
 {
     let got = streams::read(STDIN_FILENO, unread, &mut input[have..]);
@@ -71,7 +72,7 @@ fn refill(
     }
     let n = got.count;
     if n == 0 {
-        let last = trace::ending(which, replay, have, out);
+        let last = trace::ending(which, replay, m, have, out);
         print(unwritten, out, last);
         return over(replay);
     }
@@ -89,11 +90,12 @@ fn go_on(
     unread: &[u8],
     unwritten: &[u8],
     t: Progress,
+    m: &[u64; rules::SUMMARY],
     input: &mut [u8],
     have: usize,
     out: &mut [u8],
 ) -> Session
-    requires { ⌜ (t .used ≤ have) × (have ≤ length (now input)) × (t .written ≤ length (now out)) × (8192 ≤ length (now out)) ⌝ }
+    requires { ⌜ (t .used ≤ have) × (have ≤ length (now input)) × (t .written ≤ length (now out)) × (16384 ≤ length (now out)) ⌝ }
     ensures { λ r. ⌜ r .have ≤ length (now (input .entry)) ⌝ }
 {
     let replay = t.replay;
@@ -105,7 +107,17 @@ fn go_on(
     }
     let left = forward(input, used, have);
     if used == 0 {
-        return refill(which, unread, unwritten, replay, events, input, left, out);
+        return refill(
+            which,
+            unread,
+            unwritten,
+            replay,
+            events,
+            m,
+            input,
+            left,
+            out,
+        );
     }
     Session {
         replay,
@@ -121,18 +133,28 @@ fn step(
     unread: &[u8],
     unwritten: &[u8],
     s: Session,
+    m: &mut [u64; rules::SUMMARY],
     store: &mut [u8],
     report: &mut [u8],
     input: &mut [u8],
     out: &mut [u8],
 ) -> Session
-    requires { ⌜ (s .have ≤ length (now input)) × (8192 ≤ length (now out)) ⌝ }
+    requires { ⌜ (s .have ≤ length (now input)) × (16384 ≤ length (now out)) ⌝ }
     ensures { λ r. ⌜ r .have ≤ length (now (input .entry)) ⌝ }
 {
     let have = s.have;
     let replay = s.replay;
-    let t = trace::block(which, s.events, replay, store, report, &input[..have], out);
-    go_on(which, unread, unwritten, t, input, have, out)
+    let t = trace::block(
+        which,
+        s.events,
+        replay,
+        m,
+        store,
+        report,
+        &input[..have],
+        out,
+    );
+    go_on(which, unread, unwritten, t, m, input, have, out)
 }
 
 fn beginning() -> Session
@@ -151,6 +173,7 @@ fn beginning() -> Session
 pub fn run(which: Watcher, unread: &[u8], unwritten: &[u8]) -> Session
     ensures { λ r. ⌜ r .have ≤ 65536 ⌝ }
 {
+    let mut summary = [0u64; rules::SUMMARY];
     let mut store = [0u8; rules::STORE];
     let mut report = [0u8; rules::REPORT];
     let mut input = [0u8; 65536];
@@ -164,6 +187,7 @@ pub fn run(which: Watcher, unread: &[u8], unwritten: &[u8]) -> Session
             unread,
             unwritten,
             s,
+            &mut summary,
             &mut store,
             &mut report,
             &mut input,

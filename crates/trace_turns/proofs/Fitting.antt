@@ -22,9 +22,9 @@ use Rattle.rules.specs.declared.Fields.{Fields}
 use Rattle.rules.specs.declared.Found.{Found}
 use Rattle.rules.specs.declared.Line.{Line}
 use Rattle.rules.specs.declared.Line.the-variants.{Unsegmented, Broken, Restart, Start, Final, Next}
-use Rattle.rules.proofs.Answers.{segment-by, clock-by, release-by}
+use Rattle.rules.proofs.Answers.{segment-by, segment-accepted, clock-by, clock-accepted, release-by, release-accepted}
 use Rattle.rules.proofs.Arrived.{arrived}
-use Rattle.trace_events.specs.Events.{replayOf, stepOf, OfEvent}
+use Rattle.trace_events.specs.Events.{Stored, replayOf, stepOf, OfEvent}
 use Rattle.trace_events.specs.declared.Replay.{Replay}
 use Rattle.rules.specs.declared.Received.{Received}
 use Rattle.trace_events.proofs.Replay.{the-type}
@@ -76,30 +76,31 @@ release-room t report e = ltb-false _ _ (not-true _ ((simp and-eq-true-iff at e)
 none-fits : (report : List ℕ) → Whole 0 report
 none-fits report = (omega arith, omega arith)
 
-event-fits : (held : Replay) (store : List ℕ) (lent : Lent) (e : Event) → length (held .table .places) ≡ placeCount
+event-fits : (held : Replay) (store : Stored) (lent : Lent) (e : Event) → length (held .table .places) ≡ placeCount
     → Whole (stepOf held store lent e .answer .records) (lentAfter (replayOf held store lent) e (stepOf held store lent e .answer) .report)
 unfolding step
 event-fits held store lent (Opening timer time) n = none-fits (lent .report)
 event-fits held store lent (Segment association s) n =
-    segment-by (λ (o : Reception). Whole (o .answer .records) (o .report)) (held .table) store (lent .report) association s
+    segment-by (held .table) (store .summary) (store .store) (lent .report) association s (λ (o : Reception). Whole (o .answer .records) (o .report))
     (λ e.
-    let room = arrived (held .table) store (lent .report) association s e .reports in
-    let one : receivedAt (held .table) store (lent .report) association s .answer .records ≤ 1 = effect-one _ (held .table) store _ _ _ _ _ _ in
+    let own = segment-accepted (held .table) (store .summary) (store .store) (lent .report) association s e .0 .own in
+    let room = arrived (held .table) (store .store) (lent .report) association s own .reports in
+    let one : receivedAt (held .table) (store .store) (lent .report) association s .answer .records ≤ 1 = effect-one _ (held .table) (store .store) _ _ _ _ _ _ in
     (omega arith, rw splice-length (omega arith)))
     (λ e. none-fits (lent .report))
 event-fits held store lent (Clock time) n =
-    clock-by (λ (o : Sweeping). Whole (o .answer .records) (o .report)) (held .table) (lent .report) time
-    (λ e. sweep-fits _ 6 time (held .table) (lent .report) n (clock-room (held .table) (lent .report) time e))
+    clock-by (held .table) (store .summary) (lent .report) time (λ (o : Sweeping). Whole (o .answer .records) (o .report))
+    (λ e. sweep-fits _ 6 time (held .table) (lent .report) n (clock-room (held .table) (lent .report) time (clock-accepted (held .table) (store .summary) (lent .report) time e .own)))
     (λ e. none-fits (lent .report))
 event-fits held store lent (Release association) n =
-    release-by (λ (o : Sweeping). Whole (o .answer .records) (o .report)) (held .table) (lent .report) association
-    (λ e. sweep-fits _ 7 (held .table .clock) (held .table) (lent .report) n (release-room (held .table) (lent .report) e))
+    release-by (held .table) (store .summary) (lent .report) association (λ (o : Sweeping). Whole (o .answer .records) (o .report))
+    (λ e. sweep-fits _ 7 (held .table .clock) (held .table) (lent .report) n (release-room (held .table) (lent .report) (release-accepted (held .table) (store .summary) (lent .report) association e .own)))
     (λ e. none-fits (lent .report))
 
 -- what owning a replay tells: its table has 16 places
 pub places-held : (held : Replay) → Is (row the-type) held (val the-type the-laws held ∷ []) → length (held .table .places) ≡ placeCount
 places-held held g = simp length-map at (g .1 .1 .1 .1 .0 .1 .1 .0 .1 .0 .1)
 
-pub answer-fits : (held : Replay) (store : List ℕ) (lent : Lent) (e : Event) (answer : Received) (store′ : List ℕ) (lent′ : Lent) → length (held .table .places) ≡ placeCount
+pub answer-fits : (held : Replay) (store : Stored) (lent : Lent) (e : Event) (answer : Received) (store′ : Stored) (lent′ : Lent) → length (held .table .places) ≡ placeCount
     → OfEvent held store lent e answer store′ lent′ → Whole (answer .records) (lent′ .report)
 answer-fits held store lent e answer store′ lent′ n p = rw (p .answered, p .lends) (event-fits held store lent e n)

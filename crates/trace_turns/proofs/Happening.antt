@@ -10,7 +10,7 @@ use Rattle.rules.specs.declared.Received.{Received}
 use Rattle.trace_items.specs.Reading.{eventMeant, kindFor}
 use Rattle.trace_items.specs.declared.Event as code
 use Rattle.trace_items.specs.declared.Event.the-variants as event
-use Rattle.trace_events.specs.Events.{stepOf, answerOf, OfEvent}
+use Rattle.trace_events.specs.Events.{Stored, stepOf, answerOf, OfEvent}
 use Rattle.trace_events.specs.declared.Replay.{Replay}
 use Rattle.trace_turns.specs.Turns.{OfWalk, kindOf, happening}
 use Rattle.trace_turns.specs.declared.Met.the-variants as met
@@ -40,7 +40,7 @@ walkWith held a kind opens used =
 walk-as : (held : Replay) (a a′ : Received) (kind kind′ : ℕ) (b b′ : Bool) (used : ℕ) → a ≡ a′ → kind ≡ kind′ → b ≡ b′ → walkWith held a kind b used ≡ walkWith held a′ kind′ b′ used
 walk-as held a a′ kind kind′ b b′ used e f g = rw (e, f, g)
 
-pub event-walk : (held : Replay) (store : List ℕ) (lent : Lent) (e : code.Event) (body : List ℕ) (kind used : ℕ) (answer : Received) (store′ : List ℕ) (lent′ : Lent)
+pub event-walk : (held : Replay) (store : Stored) (lent : Lent) (e : code.Event) (body : List ℕ) (kind used : ℕ) (answer : Received) (store′ : Stored) (lent′ : Lent)
     → kind ≡ kindFor e → OfEvent held store lent (eventMeant e body) answer store′ lent′
     → OfWalk (happening held store lent (eventMeant e body) used) (walkWith held answer kind (eqb kind 32) used) store′ lent′
 event-walk held store lent e body kind used answer store′ lent′ k p =

@@ -5,7 +5,7 @@ use mathlib.Core.Bool.{Bool, true, false}
 use mathlib.Core.List.{List}
 use Rattle.rules.specs.General.{if_then_else_}
 use Rattle.rules.specs.Calls.{Lent}
-use Rattle.trace_events.specs.Events.{keeping}
+use Rattle.trace_events.specs.Events.{Stored, keeping}
 use Rattle.trace_events.specs.declared.Replay.{Replay}
 use Rattle.trace_turns.specs.Turns.{OfWalk, Fits, Registering, still, stopping, registering, registerOf}
 use Rattle.trace_turns.specs.declared.Walk.{Walk}
@@ -25,7 +25,7 @@ registry-kept held kind body replay e k = go (held .begun) e
 
 -- what the code answers of it is the walk's
 pub registry-walk : (held : Replay) (kind : ℕ) (body : List ℕ) (answer : Walk) → answer ≡ registerOf held kind body
-    → (store : List ℕ) (lent : Lent) → OfWalk (registering held store lent kind body) answer store lent
+    → (store : Stored) (lent : Lent) → OfWalk (registering held store lent kind body) answer store lent
 registry-walk held kind body answer a store lent = go (held .begun) a
   where
     go : (b : Bool) → answer ≡ (if b then still held met.Stops else keptWalk (keeping held kind body))

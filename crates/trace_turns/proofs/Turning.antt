@@ -12,6 +12,7 @@ use Rattle.rules.specs.Calls.{Lent}
 use Rattle.rules.specs.Trace.{isKnown, bodyLength, itemOf}
 use Rattle.trace_items.specs.Reading.{bodyOf}
 use Rattle.trace_items.specs.declared.Body.the-variants.{Of, Unknown}
+use Rattle.trace_events.specs.Events.{Stored}
 use Rattle.trace_events.specs.declared.Replay.{Replay}
 use Rattle.trace_turns.specs.Turns.{Front, OfWalk, metOf, still, staying, waiting, stopping, atItem, walked}
 use Rattle.trace_turns.specs.declared.Walk.{Walk}
@@ -28,7 +29,7 @@ unknown-is : (b : Bool) (n : ℕ) → (if b then Of n else Unknown) ≡ Unknown 
 unknown-is true n e = cc
 unknown-is false n e = refl
 
-module _ (held : Replay) (store : List ℕ) (lent : Lent) where
+module _ (held : Replay) (store : Stored) (lent : Lent) where
   -- nothing is done and nothing is used
   pub as-still : (front : Front) (answer : Walk) → answer ≡ still held (metOf front) → OfWalk (staying front held store lent) answer store lent
   as-still front answer a = record { answered = a; stored = refl; lends = refl }

@@ -12,7 +12,7 @@ use Rattle.rules.specs.Calls.{Lent, Outcome}
 use Rattle.rules.specs.Trace.{Event, Opening, Segment, Clock, Release, Item, Registers, Happens, Stops, Sight, sightOf, isKnown, bodyLength, itemOf, isOpening, lentAfter}
 use Rattle.rules.specs.Listing.{decisionIn}
 use Rattle.trace_items.specs.declared.Happening.{Happening}
-use Rattle.trace_events.specs.Events.{replayOf, stepOf, keeping}
+use Rattle.trace_events.specs.Events.{Stored, storedIn, replayOf, stepOf, keeping}
 use Rattle.trace_events.specs.declared.Replay.{Replay}
 use Rattle.trace_turns.specs.declared.Met.{Met}
 use Rattle.trace_turns.specs.declared.Met.the-variants as met
@@ -29,7 +29,7 @@ pub data Front : Type 0 where
 pub record Walked : Type 0 where
   pub front : Front
   pub held : Replay
-  pub store : List ℕ
+  pub store : Stored
   pub lent : Lent
   pub used : ℕ
 
@@ -50,7 +50,7 @@ metOf Registering = met.Registers
 metOf (Seeing s) = met.Happens (happeningOf (s .event) (s .outcome))
 
 -- a walk of the code
-pub record OfWalk (want : Walked) (answer : Walk) (store′ : List ℕ) (lent′ : Lent) : Type 0 where
+pub record OfWalk (want : Walked) (answer : Walk) (store′ : Stored) (lent′ : Lent) : Type 0 where
   pub answered : answer ≡ record { replay = want .held; met = metOf (want .front); used = want .used }
   pub stored : store′ ≡ want .store
   pub lends : lent′ ≡ want .lent
@@ -66,17 +66,17 @@ Fits (met.Happens h) report = (h .records ≤ placeCount) × (recordLength * h .
 abbrev pub still : Replay → Met → Walk
 still held m = record { replay = held; met = m; used = 0 }
 
-abbrev pub staying : Front → Replay → List ℕ → Lent → Walked
+abbrev pub staying : Front → Replay → Stored → Lent → Walked
 staying front held store lent = record { front = front; held = held; store = store; lent = lent; used = 0 }
 
-abbrev pub waiting : Replay → List ℕ → Lent → Walked
+abbrev pub waiting : Replay → Stored → Lent → Walked
 waiting = staying Waiting
 
-abbrev pub stopping : Replay → List ℕ → Lent → Walked
+abbrev pub stopping : Replay → Stored → Lent → Walked
 stopping = staying Stopping
 
 -- a registry record stops after the first open, and is kept before it
-abbrev pub registering : Replay → List ℕ → Lent → ℕ → List ℕ → Walked
+abbrev pub registering : Replay → Stored → Lent → ℕ → List ℕ → Walked
 registering held store lent kind body =
     if held .begun then stopping held store lent else
     record { front = Registering; held = keeping held kind body; store = store; lent = lent; used = 3 }
@@ -87,25 +87,25 @@ registerOf held kind body =
     record { replay = keeping held kind body; met = met.Registers; used = 3 }
 
 -- an event, and what is held after its step
-abbrev pub happening : Replay → List ℕ → Lent → Event → ℕ → Walked
+abbrev pub happening : Replay → Stored → Lent → Event → ℕ → Walked
 happening held store lent e used =
     let o : Outcome = stepOf held store lent e in
     record {
       front = Seeing (sightOf (replayOf held store lent) e);
       held = record { registry = held .registry; length = held .length; table = o .state .table; begun = held .begun || isOpening e };
-      store = o .state .store;
+      store = storedIn (o .state);
       lent = lentAfter (replayOf held store lent) e (o .answer);
       used = used;
     }
 
-abbrev pub atItem : Replay → List ℕ → Lent → Item → ℕ → Walked
+abbrev pub atItem : Replay → Stored → Lent → Item → ℕ → Walked
 atItem held store lent (Registers []) used = stopping held store lent
 atItem held store lent (Registers (kind ∷ body)) used = registering held store lent kind body
 atItem held store lent (Happens e) used = happening held store lent e used
 atItem held store lent Stops used = stopping held store lent
 
 -- the record at the front; what is no whole record waits for more
-unfoldable pub walked : Replay → List ℕ → Lent → List ℕ → Walked
+unfoldable pub walked : Replay → Stored → Lent → List ℕ → Walked
 walked held store lent [] = waiting held store lent
 walked held store lent (kind ∷ l) =
     if not (isKnown kind) then stopping held store lent else

@@ -12,6 +12,7 @@ ghost use lib.ListN.{length, replicate};
 ghost use Rattle.rules.specs.Opening.{unopened};
 ghost use Rattle.rules.specs.Calls.{lending};
 ghost use Rattle.rules.specs.Trace.{isKnown, bodyLength, itemOf};
+ghost use Rattle.trace_events.specs.Events.{storedOf};
 ghost use Rattle.trace_items.specs.Reading.{eventMeant};
 ghost use Rattle.trace_turns.specs.Turns.{OfWalk, Fits, still, registering, registerOf, happening, atItem, walked};
 
@@ -57,13 +58,20 @@ fn registers(held: Replay, kind: u8, body: &[u8]) -> Walk
 }
 
 // An event: its step.
-fn happens(held: Replay, store: &mut [u8], report: &mut [u8], e: Event, body: &[u8]) -> Walk
+fn happens(
+    held: Replay,
+    m: &mut [u64; rules::SUMMARY],
+    store: &mut [u8],
+    report: &mut [u8],
+    e: Event,
+    body: &[u8],
+) -> Walk
     requires { ⌜ length (now body) ≤ 258 ⌝ }
-    ensures { λ r. ⌜ OfWalk (happening held (now (store .entry)) (lending (now (report .entry)) []) (eventMeant e (now (body .entry))) (1 + length (now (body .entry)))) r (now (store .exit)) (lending (now (report .exit)) []) ⌝ }
+    ensures { λ r. ⌜ OfWalk (happening held (storedOf (now (m .entry)) (now (store .entry))) (lending (now (report .entry)) []) (eventMeant e (now (body .entry))) (1 + length (now (body .entry)))) r (storedOf (now (m .exit)) (now (store .exit))) (lending (now (report .exit)) []) ⌝ }
     ensures { λ r. ⌜ Fits (r .met) (now (report .exit)) ⌝ }
 {
     let kind = trace_items::kind_of(e);
-    let a = trace_events::happen(held, store, report, e, body);
+    let a = trace_events::happen(held, m, store, report, e, body);
     let registry = held.registry;
     let table = a.table;
     let decision = a.decision;
@@ -86,21 +94,34 @@ fn happens(held: Replay, store: &mut [u8], report: &mut [u8], e: Event, body: &[
 }
 
 // A record of a known kind.
-fn known(held: Replay, store: &mut [u8], report: &mut [u8], kind: u8, body: &[u8]) -> Walk
+fn known(
+    held: Replay,
+    m: &mut [u64; rules::SUMMARY],
+    store: &mut [u8],
+    report: &mut [u8],
+    kind: u8,
+    body: &[u8],
+) -> Walk
     requires { ⌜ (isKnown kind ≡ true) × (length (now body) ≡ bodyLength kind) ⌝ }
-    ensures { λ r. ⌜ OfWalk (atItem held (now (store .entry)) (lending (now (report .entry)) []) (itemOf kind (now (body .entry))) (1 + bodyLength kind)) r (now (store .exit)) (lending (now (report .exit)) []) ⌝ }
+    ensures { λ r. ⌜ OfWalk (atItem held (storedOf (now (m .entry)) (now (store .entry))) (lending (now (report .entry)) []) (itemOf kind (now (body .entry))) (1 + bodyLength kind)) r (storedOf (now (m .exit)) (now (store .exit))) (lending (now (report .exit)) []) ⌝ }
     ensures { λ r. ⌜ (r .used ≤ 1 + bodyLength kind) × Fits (r .met) (now (report .exit)) ⌝ }
 {
     let item = trace_items::item_of(kind, body);
     match item {
         Item::Registers => registers(held, kind, body),
-        Item::Happens(e) => happens(held, store, report, e, body),
+        Item::Happens(e) => happens(held, m, store, report, e, body),
     }
 }
 
 // The record at the front of an input.
-pub fn turn(held: Replay, store: &mut [u8], report: &mut [u8], input: &[u8]) -> Walk
-    ensures { λ r. ⌜ OfWalk (walked held (now (store .entry)) (lending (now (report .entry)) []) (now (input .entry))) r (now (store .exit)) (lending (now (report .exit)) []) ⌝ }
+pub fn turn(
+    held: Replay,
+    m: &mut [u64; rules::SUMMARY],
+    store: &mut [u8],
+    report: &mut [u8],
+    input: &[u8],
+) -> Walk
+    ensures { λ r. ⌜ OfWalk (walked held (storedOf (now (m .entry)) (now (store .entry))) (lending (now (report .entry)) []) (now (input .entry))) r (storedOf (now (m .exit)) (now (store .exit))) (lending (now (report .exit)) []) ⌝ }
     ensures { λ r. ⌜ (r .used ≤ length (now (input .entry))) × Fits (r .met) (now (report .exit)) ⌝ }
 {
     if input.len() == 0 {
@@ -115,7 +136,7 @@ pub fn turn(held: Replay, store: &mut [u8], report: &mut [u8], input: &[u8]) -> 
                 return stays(held, Met::Waits);
             }
             let end = 1 + n;
-            known(held, store, report, kind, &input[1..end])
+            known(held, m, store, report, kind, &input[1..end])
         }
     }
 }
@@ -124,7 +145,8 @@ pub fn turn(held: Replay, store: &mut [u8], report: &mut [u8], input: &[u8]) -> 
 pub fn beginning() -> Replay
     ensures { λ r. ⌜ r ≡ record { registry = replicate 27 0; length = 0; table = unopened; begun = false } ⌝ }
 {
-    let r = opening::opening(b"", 0, 0);
+    let mut none = [0; rules::SUMMARY];
+    let r = opening::opening(&mut none, b"", 0, 0);
     let table = r.table;
     Replay {
         registry: [0; 27],

@@ -28,15 +28,15 @@ fn octets(s: &[u8]) {
 }
 
 // Registry 01 00 03, 02 00 04; T 100.
-fn fresh(clock: u32) -> Table {
-    let r = opening::opening(b"\x01\x00\x03\x02\x00\x04", 100, clock);
+fn fresh(m: &mut [u64; rules::SUMMARY], clock: u32) -> Table {
+    let r = opening::opening(m, b"\x01\x00\x03\x02\x00\x04", 100, clock);
     r.table
 }
 
 // A segment: its refusal, its records, the first 12 octets of its record, and how many octets it delivers, with the first of them.
-fn segment(t: Table, store: &mut [u8], s: &[u8]) -> Table {
+fn segment(t: Table, m: &mut [u64; rules::SUMMARY], store: &mut [u8], s: &[u8]) -> Table {
     let mut report = [0u8; 32];
-    let r = receiver::segment(t, store, &mut report, 9, s);
+    let r = receiver::segment(t, m, store, &mut report, 9, s);
     io::write_all(STDOUT_FILENO, b"segment");
     number(r.refusal as u64);
     number(r.records as u64);
@@ -52,23 +52,27 @@ fn segment(t: Table, store: &mut [u8], s: &[u8]) -> Table {
 }
 
 fn alone(name: &[u8], s: &[u8]) {
-    let mut store = [0u8; 32768];
+    let mut m = [0u64; rules::SUMMARY];
+    let mut store = [0u8; rules::STORE];
     io::write_all(STDOUT_FILENO, name);
-    segment(fresh(0), &mut store, s);
+    let t = fresh(&mut m, 0);
+    segment(t, &mut m, &mut store, s);
 }
 
 fn two(name: &[u8], s: &[u8], u: &[u8]) {
-    let mut store = [0u8; 32768];
+    let mut m = [0u64; rules::SUMMARY];
+    let mut store = [0u8; rules::STORE];
     io::write_all(STDOUT_FILENO, name);
-    let t = segment(fresh(0), &mut store, s);
+    let o = fresh(&mut m, 0);
+    let t = segment(o, &mut m, &mut store, s);
     io::write_all(STDOUT_FILENO, name);
-    segment(t, &mut store, u);
+    segment(t, &mut m, &mut store, u);
 }
 
 // The clock: its refusal, its records, and the cause of the first.
-fn clock(t: Table, time: u32) -> Table {
+fn clock(t: Table, m: &mut [u64; rules::SUMMARY], time: u32) -> Table {
     let mut report = [0u8; 512];
-    let r = receiver::clock(t, &mut report, time);
+    let r = receiver::clock(t, m, &mut report, time);
     io::write_all(STDOUT_FILENO, b"clock");
     number(r.refusal as u64);
     number(r.records as u64);
@@ -81,6 +85,7 @@ fn clock(t: Table, time: u32) -> Table {
 
 // A sending of n octets with context 3: its refusal, count and length, and the segment's first octets.
 fn sending(data: &[u8], room1: usize, room: usize, k: usize) {
+    let mut m = [0u64; rules::SUMMARY];
     let mut area = [0u8; 255];
     let q = Request {
         context: Context(3),
@@ -90,7 +95,8 @@ fn sending(data: &[u8], room1: usize, room: usize, k: usize) {
         room,
         number: k,
     };
-    let r = sender::sending(fresh(0), q, b"", b"", data, &mut area);
+    let t = fresh(&mut m, 0);
+    let r = sender::sending(t, q, b"", b"", data, &mut area);
     io::write_all(STDOUT_FILENO, b"sending");
     number(r.refusal as u64);
     number(r.count as u64);
@@ -101,30 +107,34 @@ fn sending(data: &[u8], room1: usize, room: usize, k: usize) {
 
 // Ten segments of a sequence: nine of 227 octets, and a last one of so many.
 fn ten(last: usize) {
-    let mut store = [0u8; 32768];
+    let mut m = [0u64; rules::SUMMARY];
+    let mut store = [0u8; rules::STORE];
     let mut part = [7u8; 255];
-    let mut t = fresh(0);
+    let mut t = fresh(&mut m, 0);
     part[0] = 0x83;
     part[1] = 0x80;
     part[3] = 0x85;
     let mut k: u8 = 0;
     while k < 9 {
         part[2] = if k == 0 { 0x49 } else { 9 - k };
-        t = segment(t, &mut store, octets::part(&part, 0, 231));
+        t = segment(t, &mut m, &mut store, octets::part(&part, 0, 231));
         k += 1;
     }
     part[2] = 0;
-    segment(t, &mut store, octets::part(&part, 0, last));
+    segment(t, &mut m, &mut store, octets::part(&part, 0, last));
 }
 
 fn timed() {
-    let mut store = [0u8; 32768];
-    let t = segment(fresh(0), &mut store, b"\x83\x81\x41\x85\xAA");
-    let u = clock(t, 99);
-    let v = clock(u, 100);
-    clock(v, 100);
-    let w = clock(fresh(4294967290), 5);
-    clock(w, 4);
+    let mut m = [0u64; rules::SUMMARY];
+    let mut store = [0u8; rules::STORE];
+    let o = fresh(&mut m, 0);
+    let t = segment(o, &mut m, &mut store, b"\x83\x81\x41\x85\xAA");
+    let u = clock(t, &mut m, 99);
+    let v = clock(u, &mut m, 100);
+    clock(v, &mut m, 100);
+    let late = fresh(&mut m, 4294967290);
+    let w = clock(late, &mut m, 5);
+    clock(w, &mut m, 4);
 }
 
 fn main() {

@@ -7,11 +7,11 @@ use borrow.Author.Needs.{needs}
 use Rattle.demanded.proofs.c_segment.Statement.{statement}
 use Rattle.demanded.proofs.c_segment.Tie as tie
 
-egrynnol-1-segment-requires : tie.Need-egrynnol-1-segment-requires
-egrynnol-1-segment-requires c κs = search needs
+egrynnol-2-segment-requires : tie.Need-egrynnol-2-segment-requires
+egrynnol-2-segment-requires c κs = search needs
 
-egrynnol-1-delivery-requires : tie.Need-egrynnol-1-delivery-requires
-egrynnol-1-delivery-requires c κs = search needs
+egrynnol-2-delivery-requires : tie.Need-egrynnol-2-delivery-requires
+egrynnol-2-delivery-requires c κs = search needs
 
 same-length : tie.Need-same-length
 same-length c = search needs
@@ -22,10 +22,10 @@ same-length-2 c = search needs
 returns : tie.Need-returns
 returns c =
     let g = c .before .before .before .before .before .before .before in
-    let s = g .before .before .before .before .before .before in
+    let s = g .before .before .before .before .before .before .before in
     let a = s .args in
-    of-c-segment (a .t) (now (a .store)) (now (a .report)) (a .association) (now (a .s)) _ _ _ (owned (a .t) (s .good .0)) (omega (arith, s .fits))
-    (g .egrynnol-1-segment .ensures) (c .egrynnol-1-delivery .ensures)
+    of-c-segment (a .t) (now (a .m)) (now (a .store)) (now (a .report)) (a .association) (now (a .s)) _ _ _ _ (owned (a .t) (s .good .0)) (omega (arith, s .fits))
+    (g .egrynnol-2-segment .ensures) (c .egrynnol-2-delivery .ensures)
 
 pub c-segment-spec : {M : Type 1} → statement M
-c-segment-spec = tie.close (tie.spec egrynnol-1-segment-requires egrynnol-1-delivery-requires same-length same-length-2 returns)
+c-segment-spec = tie.close (tie.spec egrynnol-2-segment-requires egrynnol-2-delivery-requires same-length same-length-2 returns)

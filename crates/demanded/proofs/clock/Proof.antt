@@ -15,8 +15,8 @@ same-length c = search needs
 returns : tie.Need-returns
 returns c =
     let g = c .before .before in
-    let a = g .before .before .before .args in
-    of-clock (a .t) (now (a .report)) (a .time) _ _ (omega arith) (g .clock .ensures)
+    let a = g .before .before .before .before .args in
+    of-clock (a .t) (now (a .m)) (now (a .report)) (a .time) _ _ _ (omega arith) (g .clock .ensures)
 
 pub clock-spec : {M : Type 1} → statement M
 clock-spec = tie.close (tie.spec clock-requires same-length returns)

@@ -11,8 +11,8 @@ opening-requires c κs = search needs
 
 returns : tie.Need-returns
 returns c =
-    let a = c .before .before .args in
-    of-opening (now (a .registry)) (a .timer) (a .clock) _ (omega arith) (c .opening .ensures)
+    let a = c .before .before .before .args in
+    of-opening (now (a .registry)) (a .timer) (a .clock) _ _ (omega arith) (c .opening .ensures)
 
 pub opening-spec : {M : Type 1} → statement M
 opening-spec = tie.close (tie.spec opening-requires returns)

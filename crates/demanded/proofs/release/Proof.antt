@@ -15,8 +15,8 @@ same-length c = search needs
 returns : tie.Need-returns
 returns c =
     let g = c .before .before in
-    let a = g .before .before .before .args in
-    of-release (a .t) (now (a .report)) (a .association) _ _ (omega arith) (g .release .ensures)
+    let a = g .before .before .before .before .args in
+    of-release (a .t) (now (a .m)) (now (a .report)) (a .association) _ _ _ (omega arith) (g .release .ensures)
 
 pub release-spec : {M : Type 1} → statement M
 release-spec = tie.close (tie.spec release-requires same-length returns)

@@ -18,9 +18,9 @@ same-length-2 c = search needs
 returns : tie.Need-returns
 returns c =
     let g = c .before .before .before .before in
-    let s = g .before .before .before .before .before .before in
+    let s = g .before .before .before .before .before .before .before in
     let a = s .args in
-    of-segment (a .t) (now (a .store)) (now (a .report)) (a .association) (now (a .s)) _ _ _ (omega (arith, s .fits)) (g .segment .ensures)
+    of-segment (a .t) (now (a .m)) (now (a .store)) (now (a .report)) (a .association) (now (a .s)) _ _ _ _ (omega (arith, s .fits)) (g .segment .ensures)
 
 pub segment-spec : {M : Type 1} → statement M
 segment-spec = tie.close (tie.spec segment-requires same-length same-length-2 returns)

@@ -27,10 +27,10 @@ same-length-3 c = search needs
 returns : tie.Need-returns
 returns c =
     let g = c .before .before .before .before in
-    let s = g .before .before .before .before .before .before in
+    let s = g .before .before .before .before .before .before .before in
     let f = s .before .before in
     let a = f .before .before .before .before .before .before .before .before .before .args in
-    one-lap (asked (a .c .table) (a .c .request) (a .c .association) (now (a .origin)) (now (a .destination)) (now (a .whole))) (a .k) (stateOf (a .t) (now (a .store))) (lending (now (a .report)) (now (a .area))) _ _ _ _ _ _
+    one-lap (asked (a .c .table) (a .c .request) (a .c .association) (now (a .origin)) (now (a .destination)) (now (a .whole))) (a .k) (stateOf (a .t) (now (a .m)) (now (a .store))) (lending (now (a .report)) (now (a .area))) _ _ _ _ _ _ _
     (f .for-segment .ensures) (s .sending .ensures) (g .receive .ensures)
 
 pub one-spec : {M : Type 1} → statement M

@@ -11,13 +11,13 @@ use Rattle.loop_laps.proofs.others.Statement.{statement}
 use Rattle.loop_laps.proofs.others.Tie as tie
 
 abbrev Inv-loop : tie.InvT-loop
-Inv-loop c count origin destination whole area₀ store₀ report₀ end l₀ k₀ area store report l k =
+Inv-loop c count origin destination whole area₀ m₀ store₀ report₀ end l₀ k₀ area m store report l k =
     let x : Asked = asked (c .table) (c .request) (c .association) origin destination whole in
-    (laps (count - 1) 1 x (lapOf l₀ store₀ (lending report₀ area₀)) ≡ laps (end - k) k x (lapOf l store (lending report area)))
+    (laps (count - 1) 1 x (lapOf l₀ m₀ store₀ (lending report₀ area₀)) ≡ laps (end - k) k x (lapOf l m store (lending report area)))
     × ((l .number ≡ 0) × ((k ≤ end) × ((length area ≡ length area₀) × ((length store ≡ length store₀) × (length report ≡ length report₀)))))
 
 abbrev μ-loop : tie.MeasureT-loop
-μ-loop c count origin destination whole area₀ store₀ report₀ end l₀ k₀ area store report l k = end - k
+μ-loop c count origin destination whole area₀ m₀ store₀ report₀ end l₀ k₀ area m store report l k = end - k
 
 loop-holds : tie.Need-loop-holds Inv-loop μ-loop
 loop-holds c = (refl, search needs)
@@ -34,10 +34,10 @@ loop-less c = search needs
 loop-again : tie.Need-loop-again Inv-loop μ-loop
 loop-again c =
     let o = c .before .before .before .before .before .before in
-    let l = o .before .before .before .before .before .before .loop in
-    let a = o .before .before .before .before .before .before .before .before .before .before .before .before .before .args in (
+    let l = o .before .before .before .before .before .before .before .loop in
+    let a = o .before .before .before .before .before .before .before .before .before .before .before .before .before .before .args in (
       laps-next (asked (a .c .table) (a .c .request) (a .c .association) (now (a .origin)) (now (a .destination)) (now (a .whole))) (a .count) (l .k) _ _ _ (l .inv .0) (omega arith) (o .one .ensures .lapped),
-      (o .one .ensures .number, (omega arith, (o .one .kept .1 .1 .1 .1 .1 .1 .0 ∙ l .inv .1 .1 .1 .0, (o .one .kept .1 .1 .1 .1 .1 .1 .1 .0 ∙ l .inv .1 .1 .1 .1 .0, o .one .kept .1 .1 .1 .1 .1 .1 .1 .1 .0 ∙ l .inv .1 .1 .1 .1 .1)))),
+      (o .one .ensures .number, (omega arith, (o .one .kept .1 .1 .1 .1 .1 .1 .0 ∙ l .inv .1 .1 .1 .0, (o .one .kept .1 .1 .1 .1 .1 .1 .1 .1 .0 ∙ l .inv .1 .1 .1 .1 .0, o .one .kept .1 .1 .1 .1 .1 .1 .1 .1 .1 .0 ∙ l .inv .1 .1 .1 .1 .1)))),
     )
 
 same-length : tie.Need-same-length Inv-loop μ-loop

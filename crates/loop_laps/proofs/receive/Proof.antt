@@ -18,8 +18,8 @@ same-length-2 c = search needs
 returns : tie.Need-returns
 returns c =
     let g = c .before .before .before .before .before in
-    let a = g .before .before .before .before .before .before .before .args in
-    receipt (a .t) _ _ (a .association) _ _ (a .n) _ _ _ (g .segment .ensures) (g .before .part .ensures)
+    let a = g .before .before .before .before .before .before .before .before .args in
+    receipt (a .t) _ _ _ (a .association) _ _ (a .n) _ _ _ _ (g .segment .ensures) (g .before .part .ensures)
 
 pub receive-spec : {M : Type 1} → statement M
 receive-spec =

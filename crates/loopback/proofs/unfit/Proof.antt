@@ -10,39 +10,82 @@ is-sound-requires c κs = search needs
 returns : tie.Need-returns
 returns c = simp (sym (c .before .is-sound .ensures) ∙ not-true _ (c .if1 .taken))
 
+is-sound-requires-2 : tie.Need-is-sound-requires-2
+is-sound-requires-2 c κs = search needs
+
 returns-2 : tie.Need-returns-2
-returns-2 c = simp (sym (c .before .before .is-sound .ensures) ∙ not-false _ (c .before .if1 .left), lt-ltb _ _ (c .if2 .taken))
+returns-2 c =
+    let s = c .before .before in
+    simp (sym (s .before .is-sound .ensures) ∙ not-false _ (s .if1 .left), sym (c .before .is-sound2 .ensures) ∙ not-true _ (c .if2 .taken))
 
 returns-3 : tie.Need-returns-3
-returns-3 c = simp (sym (c .before .before .before .is-sound .ensures) ∙ not-false _ (c .before .before .if1 .left), le-ltb _ _ (c .before .if2 .left), lt-ltb _ _ (c .if3 .taken))
+returns-3 c =
+    let t = c .before in
+    let s = t .before .before in
+    simp (
+      sym (s .before .is-sound .ensures) ∙ not-false _ (s .if1 .left),
+      sym (t .before .is-sound2 .ensures) ∙ not-false _ (t .if2 .left),
+      lt-ltb _ _ (c .if3 .taken),
+    )
 
 returns-4 : tie.Need-returns-4
-returns-4 c = simp (sym (c .before .before .before .before .is-sound .ensures) ∙ not-false _ (c .before .before .before .if1 .left), le-ltb _ _ (c .before .before .if2 .left), le-ltb _ _ (c .before .if3 .left), lt-ltb _ _ (c .if4 .taken))
+returns-4 c =
+    let t = c .before .before in
+    let s = t .before .before in
+    simp (
+      sym (s .before .is-sound .ensures) ∙ not-false _ (s .if1 .left),
+      sym (t .before .is-sound2 .ensures) ∙ not-false _ (t .if2 .left),
+      le-ltb _ _ (c .before .if3 .left),
+      lt-ltb _ _ (c .if4 .taken),
+    )
+
+returns-5 : tie.Need-returns-5
+returns-5 c =
+    let t = c .before .before .before in
+    let s = t .before .before in
+    simp (
+      sym (s .before .is-sound .ensures) ∙ not-false _ (s .if1 .left),
+      sym (t .before .is-sound2 .ensures) ∙ not-false _ (t .if2 .left),
+      le-ltb _ _ (c .before .before .if3 .left),
+      le-ltb _ _ (c .before .if4 .left),
+      lt-ltb _ _ (c .if5 .taken),
+    )
 
 has-vacant-requires : tie.Need-has-vacant-requires
 has-vacant-requires c κs = search needs
 
-returns-5 : tie.Need-returns-5
-returns-5 c =
-    let e = c .before .before in
-    simp (
-      sym (e .before .before .before .before .is-sound .ensures) ∙ not-false _ (e .before .before .before .if1 .left),
-      le-ltb _ _ (e .before .before .if2 .left),
-      le-ltb _ _ (e .before .if3 .left),
-      le-ltb _ _ (e .if4 .left),
-      sym (c .before .has-vacant .ensures) ∙ not-true _ (c .if5 .taken),
-    )
-
 returns-6 : tie.Need-returns-6
 returns-6 c =
     let e = c .before .before in
+    let t = e .before .before .before in
+    let s = t .before .before in
     simp (
-      sym (e .before .before .before .before .is-sound .ensures) ∙ not-false _ (e .before .before .before .if1 .left),
-      le-ltb _ _ (e .before .before .if2 .left),
-      le-ltb _ _ (e .before .if3 .left),
-      le-ltb _ _ (e .if4 .left),
-      sym (c .before .has-vacant .ensures) ∙ not-false _ (c .if5 .left),
+      sym (s .before .is-sound .ensures) ∙ not-false _ (s .if1 .left),
+      sym (t .before .is-sound2 .ensures) ∙ not-false _ (t .if2 .left),
+      le-ltb _ _ (e .before .before .if3 .left),
+      le-ltb _ _ (e .before .if4 .left),
+      le-ltb _ _ (e .if5 .left),
+      sym (c .before .has-vacant .ensures) ∙ not-true _ (c .if6 .taken),
     )
+
+uncounted-requires : tie.Need-uncounted-requires
+uncounted-requires c κs = search needs
+
+returns-7 : tie.Need-returns-7
+returns-7 c =
+    let v = c .before in
+    let e = v .before .before in
+    let t = e .before .before .before in
+    let s = t .before .before in
+    simp (
+      sym (s .before .is-sound .ensures) ∙ not-false _ (s .if1 .left),
+      sym (t .before .is-sound2 .ensures) ∙ not-false _ (t .if2 .left),
+      le-ltb _ _ (e .before .before .if3 .left),
+      le-ltb _ _ (e .before .if4 .left),
+      le-ltb _ _ (e .if5 .left),
+      sym (v .before .has-vacant .ensures) ∙ not-false _ (v .if6 .left),
+    )
+    (c .uncounted .ensures)
 
 pub unfit-spec : {M : Type 1} → statement M
 unfit-spec =
@@ -50,9 +93,12 @@ unfit-spec =
     (tie.spec
     is-sound-requires
     returns
+    is-sound-requires-2
     returns-2
     returns-3
     returns-4
-    has-vacant-requires
     returns-5
-    returns-6)
+    has-vacant-requires
+    returns-6
+    uncounted-requires
+    returns-7)

@@ -4,6 +4,7 @@ use denote.Ref.{now}
 use lib.ListN.{length, drop, length-drop}
 use native.Mathlib.Omega.{arith}
 use Rattle.rules.specs.Numbers.{parameterMost}
+use Rattle.receive_perform.specs.declared.Verdict.{Verdict}
 use Rattle.receive_segment.specs.Arrival.{arrival}
 use Rattle.receive_segment.proofs.Arriving.{leads-as, leads-of, refuses, refused-fits, is-full, is-carried, fit}
 use borrow.Author.Needs.{needs}
@@ -41,7 +42,10 @@ returns c =
           (is-full (a .t) store report (a .f) (now (i .tail .result)) (a .q) (a .held) (l .line-of .result) (s .pre .0 .1 .1) (s .pre .1 .1) (l .line-of .ensures .0) (l .line-of .ensures .1) (rw (c .before .before .before .starts .ensures) at (c .before .if1 .taken))
           ∙ ap (arrival (a .t) store report (a .q .key) (a .f)) (i .tail .ensures))
           (refuses (a .t) (a .q .search .at) 10 (a .q .key) (a .held) _ (s .pre .1 .1) (c .refused .ensures) _ store report),
-      λ store h. refused-fits (a .t) (a .q .search .at) 10 (a .q .key) (a .held) _ (s .pre .1 .1) (c .refused .ensures) store _,
+      (
+        λ store h. refused-fits (a .t) (a .q .search .at) 10 (a .q .key) (a .held) _ (s .pre .1 .1) (c .refused .ensures) store _,
+        λ z. absurd (let n = ap (λ (w : Verdict). w .refusal) (c .refused .ensures) in omega (arith, n, z)),
+      ),
     )
 
 judge-requires : tie.Need-judge-requires
@@ -66,7 +70,7 @@ returns-2 c =
           (is-carried (a .t) store report (a .f) (now (i .tail .result)) (a .q) (a .held) (l .line-of .result) (s .pre .0 .1 .1) (s .pre .1 .1) (l .line-of .ensures .0) (l .line-of .ensures .1) (rw (e .before .before .starts .ensures) at (e .if1 .left))
           ∙ ap (arrival (a .t) store report (a .q .key) (a .f)) (i .tail .ensures))
           (v .0 (a .t) store report (now (i .tail .result)) (refl, s .pre .1 .1) refl)),
-      λ store h. rw same at (v .1 .1 store h),
+      (λ store h. rw same at (v .1 .1 store h), λ z. v .1 .0),
     )
 
 pub arrive-spec : {M : Type 1} → statement M

@@ -10,6 +10,9 @@ use Rattle.receive_sweep.proofs.clock.Tie as tie
 is-sound-requires : tie.Need-is-sound-requires
 is-sound-requires c κs = search needs
 
+is-sound-requires-2 : tie.Need-is-sound-requires-2
+is-sound-requires-2 c κs = search needs
+
 judge-requires : tie.Need-judge-requires
 judge-requires c κs = search needs
 
@@ -22,11 +25,12 @@ same-length c = search needs
 returns : tie.Need-returns
 returns c =
     let j = c .before .before in
-    let o = j .before .before in
+    let w = j .before .before in
+    let o = w .before .before in
     let a = o .before .before .args in
-    let is = clock-is (a .t) (a .report .now) (o .is-sound .result) (o .is-sound .ensures) (j .judge .result) (j .judge .ensures) (a .time) in
+    let is = clock-is (a .t) (a .m .now) (a .report .now) (o .is-sound .ensures) (w .is-sound2 .ensures) (j .judge .ensures) (a .time) in
     let e = ne-eqb _ _ (c .before .if1 .taken) in
-    record { answered = rw is (simp e (c .refused .ensures)); reported = rw is (simp e) }
+    record { answered = rw is (simp e (c .refused .ensures)); summed = rw is (simp e); reported = rw is (simp e) }
 
 elapsed-requires : tie.Need-elapsed-requires
 elapsed-requires c κs = search needs
@@ -41,15 +45,16 @@ returns-2 : tie.Need-returns-2
 returns-2 c =
     let k = c .before .before in
     let j = k .before .before in
-    let o = j .before .before in
+    let w = j .before .before in
+    let o = w .before .before in
     let a = o .before .before .args in
-    let is = clock-is (a .t) (a .report .now) (o .is-sound .result) (o .is-sound .ensures) (j .judge .result) (j .judge .ensures) (a .time) in
+    let is = clock-is (a .t) (a .m .now) (a .report .now) (o .is-sound .ensures) (w .is-sound2 .ensures) (j .judge .ensures) (a .time) in
     let e = eq-eqb _ _ (k .before .if1 .left) in
     let f = le-leb (2 ^ 31) (elapsed (a .time) (a .t .clock)) (omega (arith, k .elapsed .ensures)) in
-    record { answered = rw is (simp (e, f) (c .refused2 .ensures)); reported = rw is (simp (e, f)) }
+    record { answered = rw is (simp (e, f) (c .refused2 .ensures)); summed = rw is (simp (e, f)); reported = rw is (simp (e, f)) }
 
-swept-requires : tie.Need-swept-requires
-swept-requires c κs = search needs
+lose-requires : tie.Need-lose-requires
+lose-requires c κs = search needs
 
 same-length-3 : tie.Need-same-length-3
 same-length-3 c = search needs
@@ -57,20 +62,22 @@ same-length-3 c = search needs
 returns-3 : tie.Need-returns-3
 returns-3 c =
     let s = c .before .before in
-    let k = s .before .before .before in
+    let k = s .before .before .before .before in
     let j = k .before .before in
-    let o = j .before .before in
+    let w = j .before .before in
+    let o = w .before .before in
     let a = o .before .before .args in
-    let is = clock-is (a .t) (a .report .now) (o .is-sound .result) (o .is-sound .ensures) (j .judge .result) (j .judge .ensures) (a .time) in
+    let is = clock-is (a .t) (a .m .now) (a .report .now) (o .is-sound .ensures) (w .is-sound2 .ensures) (j .judge .ensures) (a .time) in
     let e = eq-eqb _ _ (k .before .if1 .left) in
     let f = lt-leb (2 ^ 31) (elapsed (a .time) (a .t .clock)) (omega (arith, k .elapsed .ensures)) in
-    record { answered = rw is (simp (e, f) (s .swept .ensures .0)); reported = rw is (simp (e, f) (s .swept .ensures .1)) }
+    record { answered = rw is (simp (e, f) (s .lose .ensures .0)); summed = rw is (simp (e, f) (s .lose .ensures .1 .0)); reported = rw is (simp (e, f) (s .lose .ensures .1 .1)) }
 
 pub clock-spec : {M : Type 1} → statement M
 clock-spec =
     tie.close
     (tie.spec
     is-sound-requires
+    is-sound-requires-2
     judge-requires
     refused-requires
     same-length
@@ -79,6 +86,6 @@ clock-spec =
     refused-requires-2
     same-length-2
     returns-2
-    swept-requires
+    lose-requires
     same-length-3
     returns-3)

@@ -7,6 +7,9 @@ use Rattle.receive_sweep.proofs.release.Tie as tie
 is-sound-requires : tie.Need-is-sound-requires
 is-sound-requires c κs = search needs
 
+is-sound-requires-2 : tie.Need-is-sound-requires-2
+is-sound-requires-2 c κs = search needs
+
 judge-requires : tie.Need-judge-requires
 judge-requires c κs = search needs
 
@@ -19,14 +22,15 @@ same-length c = search needs
 returns : tie.Need-returns
 returns c =
     let j = c .before .before in
-    let o = j .before .before in
+    let w = j .before .before in
+    let o = w .before .before in
     let a = o .before .before .args in
-    let is = release-is (a .t) (a .report .now) (o .is-sound .result) (o .is-sound .ensures) (j .judge .result) (j .judge .ensures) (a .association) in
+    let is = release-is (a .t) (a .m .now) (a .report .now) (o .is-sound .ensures) (w .is-sound2 .ensures) (j .judge .ensures) (a .association) in
     let e = ne-eqb _ _ (c .before .if1 .taken) in
-    record { answered = rw is (simp e (c .refused .ensures)); reported = rw is (simp e) }
+    record { answered = rw is (simp e (c .refused .ensures)); summed = rw is (simp e); reported = rw is (simp e) }
 
-swept-requires : tie.Need-swept-requires
-swept-requires c κs = search needs
+lose-requires : tie.Need-lose-requires
+lose-requires c κs = search needs
 
 same-length-2 : tie.Need-same-length-2
 same-length-2 c = search needs
@@ -34,22 +38,25 @@ same-length-2 c = search needs
 returns-2 : tie.Need-returns-2
 returns-2 c =
     let s = c .before .before in
-    let j = s .before .before .before in
-    let o = j .before .before in
+    let i = s .before .before .before in
+    let j = i .before in
+    let w = j .before .before in
+    let o = w .before .before in
     let a = o .before .before .args in
-    let is = release-is (a .t) (a .report .now) (o .is-sound .result) (o .is-sound .ensures) (j .judge .result) (j .judge .ensures) (a .association) in
-    let e = eq-eqb _ _ (s .before .before .if1 .left) in
-    record { answered = rw is (simp e (s .swept .ensures .0)); reported = rw is (simp e (s .swept .ensures .1)) }
+    let is = release-is (a .t) (a .m .now) (a .report .now) (o .is-sound .ensures) (w .is-sound2 .ensures) (j .judge .ensures) (a .association) in
+    let e = eq-eqb _ _ (i .if1 .left) in
+    record { answered = rw is (simp e (s .lose .ensures .0)); summed = rw is (simp e (s .lose .ensures .1 .0)); reported = rw is (simp e (s .lose .ensures .1 .1)) }
 
 pub release-spec : {M : Type 1} → statement M
 release-spec =
     tie.close
     (tie.spec
     is-sound-requires
+    is-sound-requires-2
     judge-requires
     refused-requires
     same-length
     returns
-    swept-requires
+    lose-requires
     same-length-2
     returns-2)

@@ -6,19 +6,20 @@ use native.Mathlib.Omega.{arith}
 use borrow.Author.Needs.{needs}
 use lib.ListN.{length}
 use Rattle.rules.specs.Calls.{lending}
+use Rattle.trace_events.specs.Events.{storedOf}
 use Rattle.trace.specs.Watching.{observerOf, runs}
 use Rattle.trace.proofs.Running.{Going, going-starts, going-full, used-within, written-within, same-out, going-over, less-left, going-on}
 use Rattle.trace.proofs.block.Statement.{statement}
 use Rattle.trace.proofs.block.Tie as tie
 
 abbrev Inv-loop : tie.InvT-loop
-Inv-loop which first store₀ report₀ input out₀ replay₀ events₀ used₀ written₀ store report out replay events used written =
+Inv-loop which first m₀ store₀ report₀ input out₀ replay₀ events₀ used₀ written₀ m store report out replay events used written =
     (length store ≡ length store₀)
     × (length report ≡ length report₀)
-    × Going (observerOf which) (runs (observerOf which) (length input) (length out₀) events₀ replay₀ store₀ (lending report₀ []) input) input out₀ store (lending report []) out replay events used written
+    × Going (observerOf which) (runs (observerOf which) (length input) (length out₀) events₀ replay₀ (storedOf m₀ store₀) (lending report₀ []) input) input out₀ (storedOf m store) (lending report []) out replay events used written
 
 abbrev μ-loop : tie.MeasureT-loop
-μ-loop which first store₀ report₀ input out₀ replay₀ events₀ used₀ written₀ store report out replay events used written = length input - used
+μ-loop which first m₀ store₀ report₀ input out₀ replay₀ events₀ used₀ written₀ m store report out replay events used written = length input - used
 
 loop-holds : tie.Need-loop-holds Inv-loop μ-loop
 loop-holds c = (refl, refl, going-starts _ _ _ _ _ _ _)
@@ -50,58 +51,58 @@ step-requires c κs = search needs
 add-used : tie.Need-add-used Inv-loop μ-loop
 add-used c =
     let t = c .before .before .before .before .before .before .before .before in
-    let o = t .before .before .before .before .before in
+    let o = t .before .before .before .before .before .before in
     let l = o .before .loop in
-    omega (arith, used-within _ (l .inv .2) (o .loop-test .taken) (t .step .result) _ _ _ (t .step .ensures .0) (t .step .ensures .1 .0) (t .step .ensures .1 .1), o .before .before .before .before .before .before .good .1 .1 .1 .1 .1 .0 .0)
+    omega (arith, used-within _ (l .inv .2) (o .loop-test .taken) (t .step .result) _ _ _ (t .step .ensures .0) (t .step .ensures .1 .0) (t .step .ensures .1 .1), o .before .before .before .before .before .before .good .1 .1 .1 .1 .1 .1 .0 .0)
 
 add-written : tie.Need-add-written Inv-loop μ-loop
 add-written c =
     let t = c .before .before .before .before .before .before .before .before .before in
-    let o = t .before .before .before .before .before in
+    let o = t .before .before .before .before .before .before in
     let l = o .before .loop in
-    omega (arith, written-within _ (l .inv .2) (o .loop-test .taken) (t .step .result) _ _ _ (t .step .ensures .0) (t .step .ensures .1 .0) (t .step .ensures .1 .1), o .before .before .before .before .before .before .good .1 .1 .1 .1 .1 .1 .0 .0)
+    omega (arith, written-within _ (l .inv .2) (o .loop-test .taken) (t .step .result) _ _ _ (t .step .ensures .0) (t .step .ensures .1 .0) (t .step .ensures .1 .1), o .before .before .before .before .before .before .good .1 .1 .1 .1 .1 .1 .1 .0 .0)
 
 same-length : tie.Need-same-length Inv-loop μ-loop
 same-length c =
     let t = c .before .before .before .before .before .before .before .before .before .before .before .before in
-    let o = t .before .before .before .before .before in
+    let o = t .before .before .before .before .before .before in
     let l = o .before .loop in
-    t .step .kept .1 .1 .1 .0 ∙ l .inv .0
+    t .step .kept .1 .1 .1 .1 .0 ∙ l .inv .0
 
 same-length-2 : tie.Need-same-length-2 Inv-loop μ-loop
 same-length-2 c =
     let t = c .before .before .before .before .before .before .before .before .before .before .before .before in
-    let o = t .before .before .before .before .before in
+    let o = t .before .before .before .before .before .before in
     let l = o .before .loop in
-    t .step .kept .1 .1 .1 .1 .0 ∙ l .inv .1
+    t .step .kept .1 .1 .1 .1 .1 .0 ∙ l .inv .1
 
 same-length-3 : tie.Need-same-length-3 Inv-loop μ-loop
 same-length-3 c =
     let t = c .before .before .before .before .before .before .before .before .before .before .before .before in
-    let o = t .before .before .before .before .before in
+    let o = t .before .before .before .before .before .before in
     let l = o .before .loop in
     same-out _ (l .inv .2) (o .loop-test .taken) (t .step .result) _ _ _ (t .step .ensures .0) (t .step .ensures .1 .0) (t .step .ensures .1 .1)
 
 returns : tie.Need-returns Inv-loop μ-loop
 returns c =
     let t = c .before .before .before .before .before .before .before .before .before .before .before .before in
-    let o = t .before .before .before .before .before in
+    let o = t .before .before .before .before .before .before in
     let l = o .before .loop in
     (going-over _ (l .inv .2) (o .loop-test .taken) (t .step .result) _ _ _ (t .step .ensures .0) (t .step .ensures .1 .0) (t .step .ensures .1 .1) (c .if1 .taken), (used-within _ (l .inv .2) (o .loop-test .taken) (t .step .result) _ _ _ (t .step .ensures .0) (t .step .ensures .1 .0) (t .step .ensures .1 .1), written-within _ (l .inv .2) (o .loop-test .taken) (t .step .result) _ _ _ (t .step .ensures .0) (t .step .ensures .1 .0) (t .step .ensures .1 .1)))
 
 loop-less : tie.Need-loop-less Inv-loop μ-loop
 loop-less c =
     let t = c .before .before .before .before .before .before .before .before .before .before .before .before in
-    let o = t .before .before .before .before .before in
+    let o = t .before .before .before .before .before .before in
     let l = o .before .loop in
     less-left _ (l .inv .2) (o .loop-test .taken) (t .step .result) _ _ _ (t .step .ensures .0) (t .step .ensures .1 .0) (t .step .ensures .1 .1) (c .if1 .left)
 
 loop-again : tie.Need-loop-again Inv-loop μ-loop
 loop-again c =
     let t = c .before .before .before .before .before .before .before .before .before .before .before .before in
-    let o = t .before .before .before .before .before in
+    let o = t .before .before .before .before .before .before in
     let l = o .before .loop in
-    (t .step .kept .1 .1 .1 .0 ∙ l .inv .0, t .step .kept .1 .1 .1 .1 .0 ∙ l .inv .1, going-on _ (l .inv .2) (o .loop-test .taken) (t .step .result) _ _ _ (t .step .ensures .0) (t .step .ensures .1 .0) (t .step .ensures .1 .1) (c .if1 .left))
+    (t .step .kept .1 .1 .1 .1 .0 ∙ l .inv .0, t .step .kept .1 .1 .1 .1 .1 .0 ∙ l .inv .1, going-on _ (l .inv .2) (o .loop-test .taken) (t .step .result) _ _ _ (t .step .ensures .0) (t .step .ensures .1 .0) (t .step .ensures .1 .1) (c .if1 .left))
 
 same-length-4 : tie.Need-same-length-4 Inv-loop μ-loop
 same-length-4 c = search needs

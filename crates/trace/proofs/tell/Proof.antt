@@ -1,6 +1,6 @@
 use mathlib.Core.Path.{refl, sym}
 use native.Mathlib.Omega.{arith}
-use Rattle.octets.proofs.Splice.{splice-nil}
+use Rattle.trace.proofs.Telling.{wrote-none, begins-low}
 use borrow.Author.Needs.{needs}
 use Rattle.trace.proofs.tell.Statement.{statement}
 use Rattle.trace.proofs.tell.Tie as tie
@@ -23,10 +23,14 @@ enum-known-met c = search needs
 tell-event-requires : tie.Need-tell-event-requires
 tell-event-requires c κs =
     let m = c .before .before in
-    rw (m .met .given .1) at (m .before .before .before .before .pre)
+    let s = m .before .before .before .before in
+    let f = rw (m .met .given .1) at (s .pre .0) in
+    (f .0, (f .1, s .pre .1 .0))
 
 returns : tie.Need-returns
-returns c = (rw (c .enum-told .given .1) (record { place = refl; stored = sym (splice-nil _ 0) }), omega arith)
+returns c =
+    let s = c .before .before .before .before in
+    (rw (c .enum-told .given .1) (wrote-none _ _), omega (arith, begins-low (s .args .which) (s .args .at) (s .pre .1 .0)))
 
 same-length : tie.Need-same-length
 same-length c = search needs
@@ -34,10 +38,15 @@ same-length c = search needs
 returns-2 : tie.Need-returns-2
 returns-2 c =
     let p = c .before .before in
-    (rw (p .before .before .enum-told2 .given .1) (p .tell-end .ensures .0), p .tell-end .ensures .1)
+    let e = p .before .before in
+    let s = e .before .before .before .before in
+    let z = s .pre .1 .1 (rw (e .enum-told2 .given .1) refl) in
+    (rw (e .enum-told2 .given .1, z) (p .tell-end .ensures .0), p .tell-end .ensures .1)
 
 returns-3 : tie.Need-returns-3
-returns-3 c = (rw (c .enum-told3 .given .1) (record { place = refl; stored = sym (splice-nil _ 0) }), omega arith)
+returns-3 c =
+    let s = c .before .before .before .before in
+    (rw (c .enum-told3 .given .1) (wrote-none _ _), omega (arith, begins-low (s .args .which) (s .args .at) (s .pre .1 .0)))
 
 same-length-2 : tie.Need-same-length-2
 same-length-2 c = search needs

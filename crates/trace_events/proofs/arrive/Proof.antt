@@ -18,7 +18,7 @@ same-length-2 c = search needs
 returns : tie.Need-returns
 returns c =
     let s = c .before .before .before .before in
-    of-part _ _ _ _ _ _ _ _ _ (s .before .before .before .part .ensures) (s .segment .ensures)
+    of-part _ _ _ _ _ _ _ _ _ _ _ (s .before .before .before .before .part .ensures) (s .segment .ensures)
 
 pub arrive-spec : {M : Type 1} → statement M
 arrive-spec =

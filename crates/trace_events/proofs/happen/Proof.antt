@@ -34,7 +34,7 @@ swept-requires-2 : tie.Need-swept-requires-2
 swept-requires-2 c κs = search needs
 
 returns : tie.Need-returns
-returns c = rw (c .before .before .e .given .1) (of-opening _ _ _ _ _ _ (c .«open» .ensures))
+returns c = rw (c .before .before .before .e .given .1) (of-opening _ _ _ _ _ _ _ _ (c .«open» .ensures .0) (c .«open» .ensures .1))
 
 same-length : tie.Need-same-length
 same-length c = search needs
@@ -45,7 +45,7 @@ same-length-2 c = search needs
 returns-2 : tie.Need-returns-2
 returns-2 c =
     let a = c .before .before .before .before in
-    rw (a .before .before .before .before .e2 .given .1) (of-segment _ _ _ _ _ _ _ _ (a .arrive .ensures))
+    rw (a .before .before .before .before .before .e2 .given .1) (of-segment _ _ _ _ _ _ _ _ _ _ (a .arrive .ensures))
 
 same-length-3 : tie.Need-same-length-3
 same-length-3 c = search needs
@@ -53,7 +53,7 @@ same-length-3 c = search needs
 returns-3 : tie.Need-returns-3
 returns-3 c =
     let k = c .before .before .before in
-    rw (k .before .before .before .e3 .given .1) (of-clock _ _ _ _ _ _ _ (k .clock .ensures) (c .swept .ensures))
+    rw (k .before .before .before .before .e3 .given .1) (of-clock _ _ _ _ _ _ _ _ _ (k .clock .ensures) (c .swept .ensures))
 
 same-length-4 : tie.Need-same-length-4
 same-length-4 c = search needs
@@ -61,7 +61,7 @@ same-length-4 c = search needs
 returns-4 : tie.Need-returns-4
 returns-4 c =
     let k = c .before .before .before in
-    rw (k .before .before .before .e4 .given .1) (of-release _ _ _ _ _ _ _ (k .release .ensures) (c .swept2 .ensures))
+    rw (k .before .before .before .before .e4 .given .1) (of-release _ _ _ _ _ _ _ _ _ (k .release .ensures) (c .swept2 .ensures))
 
 pub happen-spec : {M : Type 1} → statement M
 happen-spec =

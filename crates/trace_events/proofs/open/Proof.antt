@@ -18,8 +18,8 @@ opening-requires c κs = search needs
 
 returns : tie.Need-returns
 returns c =
-    let a = c .before .before .before .before .before .args in
-    ap answerOpened (c .before .opening .ensures .answered ∙ ap (λ (l : List ℕ). opening l (a .timer) (a .clock)) (c .before .before .part .ensures))
+    let a = c .before .before .before .before .before .before .args in
+    (ap answerOpened (c .before .opening .ensures .answered ∙ ap (λ (l : List ℕ). opening l (a .timer) (a .clock)) (c .before .before .part .ensures)), c .before .opening .ensures .summed)
 
 pub open-spec : {M : Type 1} → statement M
 open-spec = tie.close (tie.spec slice-aggregate-part part-requires opening-requires returns)

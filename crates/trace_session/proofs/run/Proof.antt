@@ -8,11 +8,11 @@ use Rattle.trace_session.proofs.run.Statement.{statement}
 use Rattle.trace_session.proofs.run.Tie as tie
 
 abbrev Inv-loop : tie.InvT-loop
-Inv-loop which unread unwritten store₀ report₀ input₀ out₀ s₀ turns₀ store report input out s turns =
+Inv-loop which unread unwritten summary₀ store₀ report₀ input₀ out₀ s₀ turns₀ summary store report input out s turns =
     (length store ≡ 32768) × (length report ≡ 512) × (length input ≡ 65536) × (length out ≡ 65536) × (s .have ≤ 65536)
 
 abbrev μ-loop : tie.MeasureT-loop
-μ-loop which unread unwritten store₀ report₀ input₀ out₀ s₀ turns₀ store report input out s turns = turns
+μ-loop which unread unwritten summary₀ store₀ report₀ input₀ out₀ s₀ turns₀ summary store report input out s turns = turns
 
 beginning-requires : tie.Need-beginning-requires Inv-loop μ-loop
 beginning-requires c κs = search needs
@@ -39,7 +39,7 @@ step-requires c κs = omega arith
 returns : tie.Need-returns Inv-loop μ-loop
 returns c =
     let s = c .before .before .before .before .before .before in
-    let l = s .before .before .before .before .before .before .loop in
+    let l = s .before .before .before .before .before .before .before .loop in
     omega (arith, s .step .ensures, l .inv .2)
 
 sub-turns : tie.Need-sub-turns Inv-loop μ-loop
@@ -51,8 +51,8 @@ loop-less c = omega arith
 loop-again : tie.Need-loop-again Inv-loop μ-loop
 loop-again c =
     let s = c .before .before .before .before .before .before in
-    let l = s .before .before .before .before .before .before .loop in
-    (s .step .kept .1 .1 .1 .1 .0 ∙ l .inv .0, s .step .kept .1 .1 .1 .1 .1 .0 ∙ l .inv .1, s .step .kept .1 .1 .1 .1 .1 .1 .0 ∙ l .inv .2, s .step .kept .1 .1 .1 .1 .1 .1 .1 .0 ∙ l .inv .3, omega (arith, s .step .ensures, l .inv .2))
+    let l = s .before .before .before .before .before .before .before .loop in
+    (s .step .kept .1 .1 .1 .1 .1 .0 ∙ l .inv .0, s .step .kept .1 .1 .1 .1 .1 .1 .0 ∙ l .inv .1, s .step .kept .1 .1 .1 .1 .1 .1 .1 .0 ∙ l .inv .2, s .step .kept .1 .1 .1 .1 .1 .1 .1 .1 .0 ∙ l .inv .3, omega (arith, s .step .ensures, l .inv .2))
 
 returns-2 : tie.Need-returns-2 Inv-loop μ-loop
 returns-2 c = c .before .loop .inv .4

@@ -10,7 +10,7 @@ slice-reshare-prefix-block c = search needs
 
 slice-aggregate-block : tie.Need-slice-aggregate-block
 slice-aggregate-block c =
-    let s = c .before .before .before .before .before .before .before .before .before .before in
+    let s = c .before .before .before .before .before .before .before .before .before .before .before in
     sym (length-take-le (s .args .s .have) (s .args .input .now) (s .pre .0))
 
 block-requires : tie.Need-block-requires
@@ -18,10 +18,10 @@ block-requires c κs = search needs
 
 go-on-requires : tie.Need-go-on-requires
 go-on-requires c κs =
-    let b = c .before .before .before .before .before .before .before .before in
-    let s = b .before .before .before .before .before .before .before .before .before .before .before .before in
+    let b = c .before .before .before .before .before .before .before .before .before in
+    let s = b .before .before .before .before .before .before .before .before .before .before .before .before .before in
     let n = length-take-le (s .args .s .have) (s .args .input .now) (s .pre .0) in
-    omega (arith, n, b .block .ensures .1 .0, b .block .ensures .1 .1, b .block .kept .1 .1 .1 .1 .1 .1 .0, s .pre .0, s .pre .1)
+    omega (arith, n, b .block .ensures .1 .0, b .block .ensures .1 .1, b .block .kept .1 .1 .1 .1 .1 .1 .1 .0, s .pre .0, s .pre .1)
 
 same-length : tie.Need-same-length
 same-length c = search needs

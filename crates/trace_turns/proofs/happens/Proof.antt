@@ -11,8 +11,8 @@ kind-of-requires c κs = search needs
 happen-requires : tie.Need-happen-requires
 happen-requires c κs = search needs
 
-add-t21 : tie.Need-add-t21
-add-t21 c = search needs
+add-t23 : tie.Need-add-t23
+add-t23 c = search needs
 
 same-length : tie.Need-same-length
 same-length c = search needs
@@ -23,10 +23,10 @@ same-length-2 c = search needs
 returns : tie.Need-returns
 returns c =
     let h = c .before .before .before .before .before .before .before in
-    let k = h .before .before .before in
+    let k = h .before .before .before .before in
     let s = k .before .before .before .before in
     (event-walk _ _ _ (s .args .e) _ _ _ _ _ _ (k .kind-of .ensures) (h .happen .ensures), answer-fits (s .args .held) _ _ _ _ _ _ (places-held (s .args .held) (s .good .0)) (h .happen .ensures))
 
 pub happens-spec : {M : Type 1} → statement M
 happens-spec =
-    tie.close (tie.spec kind-of-requires happen-requires add-t21 same-length same-length-2 returns)
+    tie.close (tie.spec kind-of-requires happen-requires add-t23 same-length same-length-2 returns)

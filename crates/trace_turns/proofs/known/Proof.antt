@@ -1,6 +1,7 @@
 -- The item is a registry record, which has two octets, or an event.
 use denote.Ref.{now}
 use native.Mathlib.Omega.{arith}
+use Rattle.trace_events.specs.Events.{storedOf}
 use Rattle.trace_items.proofs.Reading.{item-as, registers-two, body-most}
 use Rattle.trace_turns.proofs.Registering.{registry-walk, registry-fits}
 use borrow.Author.Needs.{needs}
@@ -21,7 +22,7 @@ enum-known-item c = search needs
 
 happens-requires : tie.Need-happens-requires
 happens-requires c κs =
-    let s = c .before .before .before .before .before .before .before .before .before in
+    let s = c .before .before .before .before .before .before .before .before .before .before in
     omega (arith, body-most (s .args .kind), s .pre .1)
 
 returns : tie.Need-returns
@@ -29,7 +30,7 @@ returns c =
     let t = c .before in
     let s = t .before .before .before .before .before .before in
     let e = item-as _ _ (s .args .kind) (s .args .body .now) (t .enum-told .given .1) (t .before .before .item-of .ensures) in
-    (rw (← e) (registry-walk (s .args .held) (s .args .kind) (s .args .body .now) _ (c .registers .ensures .0) (now (s .args .store)) _), (omega (arith, registers-two _ _ e, c .registers .ensures .1), registry-fits (s .args .held) (s .args .kind) (s .args .body .now) _ (c .registers .ensures .0) _))
+    (rw (← e) (registry-walk (s .args .held) (s .args .kind) (s .args .body .now) _ (c .registers .ensures .0) (storedOf (now (s .args .m)) (now (s .args .store))) _), (omega (arith, registers-two _ _ e, c .registers .ensures .1), registry-fits (s .args .held) (s .args .kind) (s .args .body .now) _ (c .registers .ensures .0) _))
 
 same-length : tie.Need-same-length
 same-length c = search needs
@@ -40,7 +41,7 @@ same-length-2 c = search needs
 returns-2 : tie.Need-returns-2
 returns-2 c =
     let h = c .before .before .before .before in
-    let i = h .before .before .before .before in
+    let i = h .before .before .before .before .before in
     let s = i .before .before .before .before .before .before in
     let e = item-as _ _ (s .args .kind) (s .args .body .now) (i .item .given .1) (i .before .before .item-of .ensures) in
     (rw (← e, ← s .pre .1) (h .happens .ensures .0), (rw (← s .pre .1) (rw (h .happens .ensures .0 .answered) (omega arith)), h .happens .ensures .1))

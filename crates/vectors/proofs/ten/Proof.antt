@@ -6,10 +6,10 @@ use Rattle.vectors.proofs.ten.Statement.{statement}
 use Rattle.vectors.proofs.ten.Tie as tie
 
 abbrev Inv-loop : tie.InvT-loop
-Inv-loop last store₀ part₀ t₀ k₀ store part t k = (k ≤ 9) × (length store ≡ 32768) × (length part ≡ 255)
+Inv-loop last m₀ store₀ part₀ t₀ k₀ m store part t k = (k ≤ 9) × (length store ≡ 32768) × (length part ≡ 255)
 
 abbrev μ-loop : tie.MeasureT-loop
-μ-loop last store₀ part₀ t₀ k₀ store part t k = 9 - k
+μ-loop last m₀ store₀ part₀ t₀ k₀ m store part t k = 9 - k
 
 fresh-requires : tie.Need-fresh-requires Inv-loop μ-loop
 fresh-requires c κs = search needs

@@ -1,0 +1,109 @@
+-- A call's number by its verdict and its count, and what the rule then leaves.
+use Prim.Native.Nat.{ℕ}
+use mathlib.Core.Path.{_≡_, refl, sym, ap, _∙_}
+use mathlib.Core.Bool.{Bool, true, false, not, true≢false}
+use mathlib.Core.List.{List, [], _∷_, _++_}
+use native.Mathlib.Omega.{arith}
+use lib.ListN.{length, drop}
+use Rattle.rules.specs.General.{if_then_else_}
+use Rattle.rules.specs.Refusals.{Check, _when_, accepted, first, judged}
+use Rattle.rules.specs.Layout.{fieldsOf}
+use Rattle.rules.specs.Receiving.{informationOf, Reception, receivedAt, unreceived, segmentChecks, segment}
+use Rattle.rules.specs.Summary.{Counted, counting, summarySound, took, billed, summaryChecks, rowChecks, totalChecks, segmentSums, segmentChecksWith, segmentWith}
+use Rattle.rules.proofs.Refusals.{Least, least-append, accepted-append, accepted-first, judged-first, first-least}
+use Rattle.rules.proofs.Least.{zero-accepted, segment-least}
+use Rattle.rules.specs.declared.Key.{Key}
+use Rattle.rules.specs.declared.Record.{Record}
+use Rattle.rules.specs.declared.Table.{Table}
+use Rattle.rules.specs.declared.Received.{Received}
+use Rattle.receive_perform.specs.Performing.{recordsIn, Leads}
+use Rattle.receive_perform.specs.declared.Verdict.{Verdict}
+use Rattle.receive_count.specs.Counting.{sumsBy, OfCount}
+use Rattle.receive_count.specs.declared.Count.{Count}
+use Rattle.receive_segment.specs.Arrival.{OfVerdict, OfWeighing}
+
+first-passed : (xs ys : List Check) → accepted xs ≡ true → first (xs ++ ys) ≡ first ys
+first-passed [] ys e = refl
+first-passed (x ∷ xs) ys e = go (x .applies) refl (first-passed xs ys)
+  where
+    go : (b : Bool) → x .applies ≡ b → (accepted xs ≡ true → first (xs ++ ys) ≡ first ys) → first (x ∷ xs ++ ys) ≡ first ys
+    go true a later = absurd (true≢false (sym (simp a at e)))
+    go false a later = simp a (later (simp a at e))
+
+first-met : (xs ys : List Check) → accepted xs ≡ false → first (xs ++ ys) ≡ first xs
+first-met [] ys e = absurd (true≢false e)
+first-met (x ∷ xs) ys e = go (x .applies) refl (first-met xs ys)
+  where
+    go : (b : Bool) → x .applies ≡ b → (accepted xs ≡ false → first (xs ++ ys) ≡ first xs) → first (x ∷ xs ++ ys) ≡ first (x ∷ xs)
+    go true a later = simp a
+    go false a later = simp a (later (simp a at e))
+
+module _ (t : Table) (m store report : List ℕ) (association : ℕ) (s : List ℕ) (isSummed : Bool) (es : isSummed ≡ summarySound m (t .places)) (place : ℕ) (key : Key) (v : Verdict)
+    (judges : OfVerdict t (length store) (length report) association s place key v) (c : Count)
+    (weighs : OfWeighing m isSummed association (length (drop (v .information) s)) v c) where
+  abbrev own : List Check
+  own = segmentChecks t store report association s
+
+  abbrev last : List Check
+  last = rowChecks m association ++ totalChecks m (segmentSums t m store report association s)
+
+  abbrev all : List Check
+  all = segmentChecksWith t m store report association s
+
+  leads : Leads (segment t store report association s) t place key v (drop (v .information) s) store report
+  leads = judges .leads store report refl refl
+
+  -- the verdict's number is that of the table's own checks
+  own-number : v .refusal ≡ first own
+  unfolding segment
+  own-number = ap (λ (r : Received). r .refusal) (leads .answered) ∙ go (accepted own) refl
+    where
+      go : (b : Bool) → accepted own ≡ b → segment t store report association s .answer .refusal ≡ first own
+      go true e = rw e (sym (accepted-first own e))
+      go false e = rw e
+
+  own-accepted : v .refusal ≡ 0 → accepted own ≡ true
+  own-accepted z = zero-accepted 0 own (segment-least t store report association s) (sym own-number ∙ z)
+
+  carried : v .refusal ≡ 0 → segment t store report association s ≡ receivedAt t store report association s
+  unfolding segment
+  carried z = rw (own-accepted z)
+
+  -- what is counted is what the rule counts
+  pub sums-same : v .refusal ≡ 0 → sumsBy m association (length (drop (v .information) s)) v key ≡ segmentSums t m store report association s
+  unfolding segmentSums
+  sums-same z =
+      let made : recordsIn v key ≡ receivedAt t store report association s .made = leads .made ∙ ap (λ (r : Reception). r .made) (carried z) in
+      λ i. billed (took m association (length (judges .taken z i))) (made i)
+
+  whole-number : c .refusal ≡ first all
+  unfolding segmentChecksWith
+  whole-number = go isSummed refl es
+    where
+      by-own : isSummed ≡ true → (b : Bool) → accepted own ≡ b → c .refusal ≡ first (own ++ last)
+      by-own g true e =
+          let z : v .refusal ≡ 0 = own-number ∙ accepted-first own e in
+          weighs .counted g z .number key (judges .own z) ∙ ap (λ (l : List ℕ). first (rowChecks m association ++ totalChecks m l)) (sums-same z) ∙ sym (first-passed own last e)
+      by-own g false e =
+          let some = first-least 1 own (segment-least t store report association s) e in
+          weighs .refused g (λ z. omega (arith, own-number, some)) ∙ own-number ∙ sym (first-met own last e)
+
+      go : (b : Bool) → isSummed ≡ b → isSummed ≡ summarySound m (t .places) → c .refusal ≡ first (summaryChecks m (t .places) ++ (own ++ last))
+      go true g e = by-own g (accepted own) refl ∙ sym (first-passed (summaryChecks m (t .places)) (own ++ last) (rw (sym e ∙ g)))
+      go false g e = weighs .unsound g ∙ rw (sym e ∙ g)
+
+  all-least : Least 1 all
+  unfolding segmentChecksWith
+  all-least = (omega arith, least-append 1 own last (segment-least t store report association s) (omega arith, (omega arith, tt)))
+
+  pub refused-is : (c .refusal ≡ 0 → ⊥) → segmentWith t m store report association s ≡ counting m (unreceived t store report (c .refusal))
+  unfolding segmentWith
+  refused-is some =
+      judged-first all (λ n. counting m (unreceived t store report n)) (counting (segmentSums t m store report association s) (receivedAt t store report association s)) (λ z. some (whole-number ∙ z))
+      ∙ ap (λ (n : ℕ). counting m (unreceived t store report n)) (sym whole-number)
+
+  pub taken-is : c .refusal ≡ 0 → segmentWith t m store report association s ≡ counting (segmentSums t m store report association s) (segment t store report association s)
+  unfolding segmentWith
+  taken-is z =
+      let e : accepted all ≡ true = zero-accepted 0 all all-least (sym whole-number ∙ z) in
+      rw e (ap (counting (segmentSums t m store report association s)) (sym (carried (weighs .taken z .1))))

@@ -1,0 +1,31 @@
+use mathlib.Core.Path.{sym, _∙_}
+use borrow.Author.Tests.{not-true, not-false}
+use Rattle.rules.specs.Summary.{summarySound}
+use Rattle.summary.proofs.Packed.{low-apart, low-seated}
+use borrow.Author.Needs.{needs}
+use Rattle.summary.proofs.is_sound.Statement.{statement}
+use Rattle.summary.proofs.is_sound.Tie as tie
+
+rows-sound-requires : tie.Need-rows-sound-requires
+rows-sound-requires c κs = search needs
+
+returns : tie.Need-returns
+unfolding summarySound
+returns c =
+    let none = sym (c .before .rows-sound .ensures) ∙ not-true _ (c .if1 .taken) in
+    rw none
+
+are-told-requires : tie.Need-are-told-requires
+are-told-requires c κs = search needs
+
+returns-2 : tie.Need-returns-2
+unfolding summarySound
+returns-2 c =
+    let e = c .before .before in
+    let s = e .before .before in
+    let m = s .args .m .now in
+    let all = sym (e .before .rows-sound .ensures) ∙ not-false _ (e .if1 .left) in
+    rw (c .are-told .ensures, all, low-apart m all, low-seated m all (s .args .t .places))
+
+pub is-sound-spec : {M : Type 1} → statement M
+is-sound-spec = tie.close (tie.spec rows-sound-requires returns are-told-requires returns-2)

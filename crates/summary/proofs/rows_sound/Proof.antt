@@ -1,0 +1,93 @@
+use Prim.Native.Nat.{_-_, _≤_}
+use mathlib.Core.Path.{_≡_, refl, sym}
+use native.Mathlib.Numerals.{add-one}
+use native.Mathlib.Omega.{arith}
+use borrow.Author.Needs.{needs}
+use lib.Dec.{eqb, leb}
+use Rattle.rules.specs.Summary.{everyBelow, rowCount}
+use Rattle.rules.proofs.Rows.{row-count}
+use Rattle.summary.proofs.Sound.{markSound, nameSound, restSound, rows-are}
+use Rattle.summary.proofs.Bits.{or-zero, or-below}
+use Rattle.summary.proofs.rows_sound.Statement.{statement}
+use Rattle.summary.proofs.rows_sound.Tie as tie
+
+abbrev Inv-loop : tie.InvT-loop
+Inv-loop m marks₀ names₀ rest₀ i₀ marks names rest i = (i ≤ 64) × ((leb marks 1 ≡ everyBelow i (markSound m)) × ((leb names 65535 ≡ everyBelow i (nameSound m)) × (eqb rest 0 ≡ everyBelow i (restSound m))))
+
+abbrev μ-loop : tie.MeasureT-loop
+μ-loop m marks₀ names₀ rest₀ i₀ marks names rest i = 64 - i
+
+loop-holds : tie.Need-loop-holds Inv-loop μ-loop
+loop-holds c = (omega arith, (refl, (refl, refl)))
+
+add-mark : tie.Need-add-mark Inv-loop μ-loop
+add-mark c = omega arith
+
+mul-mark : tie.Need-mul-mark Inv-loop μ-loop
+mul-mark c = omega arith
+
+element-copy-out-mark : tie.Need-element-copy-out-mark Inv-loop μ-loop
+element-copy-out-mark c = omega arith
+
+add-names : tie.Need-add-names Inv-loop μ-loop
+add-names c = omega arith
+
+mul-names : tie.Need-mul-names Inv-loop μ-loop
+mul-names c = omega arith
+
+element-copy-out-names : tie.Need-element-copy-out-names Inv-loop μ-loop
+element-copy-out-names c = omega arith
+
+rest-of-requires : tie.Need-rest-of-requires Inv-loop μ-loop
+rest-of-requires c κs = search needs
+
+unmarked-requires : tie.Need-unmarked-requires Inv-loop μ-loop
+unmarked-requires c κs = search needs
+
+add-i : tie.Need-add-i Inv-loop μ-loop
+add-i c = omega arith
+
+loop-less : tie.Need-loop-less Inv-loop μ-loop
+loop-less c = omega arith
+
+loop-again : tie.Need-loop-again Inv-loop μ-loop
+loop-again c =
+    let l = c .before .before .before .before .before in
+    let inv = l .loop .inv .1 in
+    let i = l .loop .i in (
+      omega arith,
+      (
+        rw (add-one i, or-below 1 _ _ 1 refl, inv .0),
+        (
+          rw (add-one i, or-below 16 _ _ 65535 refl, inv .1 .0),
+          rw (add-one i, or-zero, c .unmarked .ensures, c .before .rest-of .ensures, inv .1 .1),
+        ),
+      ),
+    )
+
+returns : tie.Need-returns Inv-loop μ-loop
+returns c =
+    let l = c .before in
+    let inv = l .loop .inv .1 in
+    let end : l .loop .i ≡ rowCount = omega (arith, row-count) in
+    rw (inv .0, inv .1 .0, inv .1 .1, end) (sym (rows-are (l .before .args .m .now) rowCount))
+
+pub rows-sound-spec : {M : Type 1} → statement M
+rows-sound-spec =
+    tie.close
+    (tie.spec
+    Inv-loop
+    μ-loop
+    loop-holds
+    add-mark
+    mul-mark
+    element-copy-out-mark
+    add-names
+    mul-names
+    element-copy-out-names
+    rest-of-requires
+    unmarked-requires
+    add-i
+    loop-less
+    loop-again
+    returns)

@@ -1,0 +1,32 @@
+-- The associations of used rows as a list, packed at the front of an array: what the code tells apart and looks up.
+use Prim.Native.Nat.{ℕ, zero, suc, _%_}
+use mathlib.Core.Bool.{Bool, not, _||_}
+use mathlib.Core.List.{List, [], _∷_}
+use lib.Dec.{eqb}
+use lib.ListN.{getD}
+use Rattle.rules.specs.General.{if_then_else_, every}
+use Rattle.rules.specs.Places.{isOpen}
+use Rattle.rules.specs.Summary.{numberAt}
+use Rattle.rules.specs.declared.Place.{Place}
+
+-- a number that is another
+abbrev pub isOther : ℕ → ℕ → Bool
+isOther x y = not (eqb y x)
+
+-- what the chosen numbers below n have, the last of them first
+abbrev pub ofThose : (ℕ → Bool) → (ℕ → ℕ) → ℕ → List ℕ
+ofThose chosen value zero = []
+ofThose chosen value (suc n) = if chosen n then value n ∷ ofThose chosen value n else ofThose chosen value n
+
+-- the first n elements, the last of them first
+abbrev pub back : List ℕ → ℕ → List ℕ
+back l zero = []
+back l (suc n) = getD l n 0 ∷ back l n
+
+-- the low half of a row's association, which in a sound row is all of it
+abbrev pub lowOf : List ℕ → ℕ → ℕ
+lowOf m row = numberAt m 1 row % 65536
+
+-- an open place's association is one of the list
+abbrev pub seatedIn : List ℕ → Place → Bool
+seatedIn l p = not (isOpen p) || not (every (isOther (p .key .association)) l)
