@@ -197,7 +197,8 @@ fn judge(sound: bool, report: &[u8]) -> u8
 pub fn clock(t: Table, m: &mut [u64; rules::SUMMARY], report: &mut [u8], time: u32) -> Swept
     ensures { λ r. ⌜ OfClock t (now (m .entry)) (now (report .entry)) time r (now (m .exit)) (now (report .exit)) ⌝ }
 {
-    let refusal = judge(sound::is_sound(t) & summary::is_sound(m, t), report);
+    let both = sound::are_sound(t, m);
+    let refusal = judge(both.table & both.summary, report);
     if refusal != 0 {
         return refused(t, refusal);
     }
@@ -217,7 +218,8 @@ pub fn release(
 ) -> Swept
     ensures { λ r. ⌜ OfRelease t (now (m .entry)) (now (report .entry)) association r (now (m .exit)) (now (report .exit)) ⌝ }
 {
-    let refusal = judge(sound::is_sound(t) & summary::is_sound(m, t), report);
+    let both = sound::are_sound(t, m);
+    let refusal = judge(both.table & both.summary, report);
     if refusal != 0 {
         return refused(t, refusal);
     }

@@ -6,6 +6,7 @@ ghost use Prim.Native.Nat.{_≤_};
 ghost use lib.ListN.{take, drop};
 ghost use Rattle.rules.specs.General.{every, everyTwo};
 ghost use Rattle.sound.specs.Digest.{isOther};
+ghost use Rattle.rules.specs.Summary.{summarySound};
 ghost use Rattle.rules.specs.Soundness.{placesApart, sound};
 
 // Whether two places are not open with one key.
@@ -98,4 +99,19 @@ pub fn is_sound(t: Table) -> bool
         return each;
     }
     each & keys_apart(places)
+}
+
+// Whether a table, and a summary beside it, is sound.
+pub struct Soundness {
+    pub table: bool,
+    pub summary: bool,
+}
+
+// Both in one call: a table that is handed on is copied.
+pub fn are_sound(t: Table, m: &[u64; rules::SUMMARY]) -> Soundness
+    ensures { λ r. ⌜ (r .table ≡ sound t) × (r .summary ≡ summarySound (now (m .entry)) (t .places)) ⌝ }
+{
+    let summary = summary::is_sound(m, t);
+    let table = is_sound(t);
+    Soundness { table, summary }
 }

@@ -7,11 +7,8 @@ use borrow.Author.Needs.{needs}
 use Rattle.receive_sweep.proofs.clock.Statement.{statement}
 use Rattle.receive_sweep.proofs.clock.Tie as tie
 
-is-sound-requires : tie.Need-is-sound-requires
-is-sound-requires c κs = search needs
-
-is-sound-requires-2 : tie.Need-is-sound-requires-2
-is-sound-requires-2 c κs = search needs
+are-sound-requires : tie.Need-are-sound-requires
+are-sound-requires c κs = search needs
 
 judge-requires : tie.Need-judge-requires
 judge-requires c κs = search needs
@@ -25,10 +22,9 @@ same-length c = search needs
 returns : tie.Need-returns
 returns c =
     let j = c .before .before in
-    let w = j .before .before in
-    let o = w .before .before in
-    let a = o .before .before .args in
-    let is = clock-is (a .t) (a .m .now) (a .report .now) (o .is-sound .ensures) (w .is-sound2 .ensures) (j .judge .ensures) (a .time) in
+    let o = j .before .before .before in
+    let a = o .before .before .before .args in
+    let is = clock-is (a .t) (a .m .now) (a .report .now) (o .are-sound .ensures .0) (o .are-sound .ensures .1) (j .judge .ensures) (a .time) in
     let e = ne-eqb _ _ (c .before .if1 .taken) in
     record { answered = rw is (simp e (c .refused .ensures)); summed = rw is (simp e); reported = rw is (simp e) }
 
@@ -45,10 +41,9 @@ returns-2 : tie.Need-returns-2
 returns-2 c =
     let k = c .before .before in
     let j = k .before .before in
-    let w = j .before .before in
-    let o = w .before .before in
-    let a = o .before .before .args in
-    let is = clock-is (a .t) (a .m .now) (a .report .now) (o .is-sound .ensures) (w .is-sound2 .ensures) (j .judge .ensures) (a .time) in
+    let o = j .before .before .before in
+    let a = o .before .before .before .args in
+    let is = clock-is (a .t) (a .m .now) (a .report .now) (o .are-sound .ensures .0) (o .are-sound .ensures .1) (j .judge .ensures) (a .time) in
     let e = eq-eqb _ _ (k .before .if1 .left) in
     let f = le-leb (2 ^ 31) (elapsed (a .time) (a .t .clock)) (omega (arith, k .elapsed .ensures)) in
     record { answered = rw is (simp (e, f) (c .refused2 .ensures)); summed = rw is (simp (e, f)); reported = rw is (simp (e, f)) }
@@ -64,10 +59,9 @@ returns-3 c =
     let s = c .before .before in
     let k = s .before .before .before .before in
     let j = k .before .before in
-    let w = j .before .before in
-    let o = w .before .before in
-    let a = o .before .before .args in
-    let is = clock-is (a .t) (a .m .now) (a .report .now) (o .is-sound .ensures) (w .is-sound2 .ensures) (j .judge .ensures) (a .time) in
+    let o = j .before .before .before in
+    let a = o .before .before .before .args in
+    let is = clock-is (a .t) (a .m .now) (a .report .now) (o .are-sound .ensures .0) (o .are-sound .ensures .1) (j .judge .ensures) (a .time) in
     let e = eq-eqb _ _ (k .before .if1 .left) in
     let f = lt-leb (2 ^ 31) (elapsed (a .time) (a .t .clock)) (omega (arith, k .elapsed .ensures)) in
     record { answered = rw is (simp (e, f) (s .lose .ensures .0)); summed = rw is (simp (e, f) (s .lose .ensures .1 .0)); reported = rw is (simp (e, f) (s .lose .ensures .1 .1)) }
@@ -76,8 +70,7 @@ pub clock-spec : {M : Type 1} → statement M
 clock-spec =
     tie.close
     (tie.spec
-    is-sound-requires
-    is-sound-requires-2
+    are-sound-requires
     judge-requires
     refused-requires
     same-length

@@ -4,11 +4,8 @@ use borrow.Author.Needs.{needs}
 use Rattle.receive_sweep.proofs.release.Statement.{statement}
 use Rattle.receive_sweep.proofs.release.Tie as tie
 
-is-sound-requires : tie.Need-is-sound-requires
-is-sound-requires c κs = search needs
-
-is-sound-requires-2 : tie.Need-is-sound-requires-2
-is-sound-requires-2 c κs = search needs
+are-sound-requires : tie.Need-are-sound-requires
+are-sound-requires c κs = search needs
 
 judge-requires : tie.Need-judge-requires
 judge-requires c κs = search needs
@@ -22,10 +19,9 @@ same-length c = search needs
 returns : tie.Need-returns
 returns c =
     let j = c .before .before in
-    let w = j .before .before in
-    let o = w .before .before in
-    let a = o .before .before .args in
-    let is = release-is (a .t) (a .m .now) (a .report .now) (o .is-sound .ensures) (w .is-sound2 .ensures) (j .judge .ensures) (a .association) in
+    let o = j .before .before .before in
+    let a = o .before .before .before .args in
+    let is = release-is (a .t) (a .m .now) (a .report .now) (o .are-sound .ensures .0) (o .are-sound .ensures .1) (j .judge .ensures) (a .association) in
     let e = ne-eqb _ _ (c .before .if1 .taken) in
     record { answered = rw is (simp e (c .refused .ensures)); summed = rw is (simp e); reported = rw is (simp e) }
 
@@ -40,10 +36,9 @@ returns-2 c =
     let s = c .before .before in
     let i = s .before .before .before in
     let j = i .before in
-    let w = j .before .before in
-    let o = w .before .before in
-    let a = o .before .before .args in
-    let is = release-is (a .t) (a .m .now) (a .report .now) (o .is-sound .ensures) (w .is-sound2 .ensures) (j .judge .ensures) (a .association) in
+    let o = j .before .before .before in
+    let a = o .before .before .before .args in
+    let is = release-is (a .t) (a .m .now) (a .report .now) (o .are-sound .ensures .0) (o .are-sound .ensures .1) (j .judge .ensures) (a .association) in
     let e = eq-eqb _ _ (i .if1 .left) in
     record { answered = rw is (simp e (s .lose .ensures .0)); summed = rw is (simp e (s .lose .ensures .1 .0)); reported = rw is (simp e (s .lose .ensures .1 .1)) }
 
@@ -51,8 +46,7 @@ pub release-spec : {M : Type 1} → statement M
 release-spec =
     tie.close
     (tie.spec
-    is-sound-requires
-    is-sound-requires-2
+    are-sound-requires
     judge-requires
     refused-requires
     same-length
