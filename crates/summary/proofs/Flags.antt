@@ -1,5 +1,5 @@
 -- Hints by the low octet: where none is met a number is new. A hint says besides where in the list the last such number is, of which nothing need be known.
-use Prim.Native.Nat.{ℕ, _+_, _<_, _%_}
+use Prim.Native.Nat.{ℕ, _+_, _-_, _<_, _≤_, _%_}
 use mathlib.Core.Path.{_≡_, refl, sym, ap, _∙_}
 use mathlib.Core.Bool.{Bool, true, false, not, _&&_, and-eq-true-iff, true≢false}
 use mathlib.Core.List.{List, [], _∷_}
@@ -12,6 +12,7 @@ use lib.Seq.{getD-set-same, getD-set-other}
 use Rattle.rules.specs.General.{if_then_else_, every, everyTwo}
 use Rattle.summary.specs.Listing.{isOther, ofThose, back}
 use Rattle.summary.proofs.Packed.{back-more}
+use Rattle.summary.proofs.Counted.{back-length, no-more, all-met}
 
 -- a number for whose low octet there is a hint
 abbrev hinted : List ℕ → ℕ → Bool
@@ -57,6 +58,16 @@ pub none-yet : (chosen : ℕ → Bool) (value : ℕ → ℕ) → Listed chosen v
 none-yet chosen value = record { room = refl; flags = refl; first = refl; each = refl; told = refl }
 
 module _ (chosen : ℕ → Bool) (value : ℕ → ℕ) (list hints : List ℕ) (apart : Bool) (n i : ℕ) (inv : Listed chosen value list hints apart n i) where
+  listed : n ≡ length (ofThose chosen value i)
+  listed = sym (back-length list n) ∙ ap length (inv .first)
+
+  -- those still to come have room in what is left, and once none is to come the list is whole
+  pub to-come : (most used : ℕ) → used ≡ length (ofThose chosen value most) → i ≤ most → used + i ≤ n + most
+  to-come most used e h = omega (arith, e, listed, no-more chosen value (most - i) i most (omega (arith, h)))
+
+  pub whole : (most used : ℕ) → used ≡ length (ofThose chosen value most) → i ≤ most → used ≤ n → ofThose chosen value most ≡ ofThose chosen value i
+  whole most used e h f = all-met chosen value (most - i) i most (omega (arith, h)) (omega (arith, e, listed, f))
+
   pub passed : chosen i ≡ false → Listed chosen value list hints apart n (i + 1)
   passed e = record { room = inv .room; flags = inv .flags; first = rw (add-one i, e) (inv .first); each = inv .each; told = inv .told }
 

@@ -178,22 +178,33 @@ fn unmarked(mark: u64, number: u64) -> u64
     0
 }
 
-// Whether every row is sound. With no way out the loop takes several rows at a time.
-fn rows_sound(m: &[u64; rules::SUMMARY]) -> bool
-    ensures { λ r. ⌜ r ≡ everyBelow rowCount (rowSound (now (m .entry))) ⌝ }
+// Whether every row is sound, and where so, how many are used.
+struct Rows {
+    sound: bool,
+    used: usize,
+}
+
+// With no way out the loop takes several rows at a time.
+fn rows_sound(m: &[u64; rules::SUMMARY]) -> Rows
+    ensures { λ r. ⌜ (r .sound ≡ everyBelow rowCount (rowSound (now (m .entry)))) × (r .sound ≡ true → r .used ≡ length (ofThose (isUsed (now (m .entry))) (lowOf (now (m .entry))) rowCount)) ⌝ }
 {
     let mut marks: u64 = 0;
     let mut names: u64 = 0;
     let mut rest: u64 = 0;
+    let mut used: u64 = 0;
     let mut i = 0;
     while i < 64 {
         let mark = m[0 + i];
         marks = mark | marks;
         names = m[64 + i] | names;
         rest = unmarked(mark, rest_of(m, i)) | rest;
+        used += mark % 2;
         i += 1;
     }
-    (marks <= 1) & (names <= 65535) & (rest == 0)
+    Rows {
+        sound: (marks <= 1) & (names <= 65535) & (rest == 0),
+        used: used as usize,
+    }
 }
 
 // The low half of a number, and the low octet of that.
@@ -255,26 +266,26 @@ fn is_listed(hint: u8, list: &[u16; 64], n: usize, x: u16) -> bool
 }
 
 // Whether a place is not open or its association is listed.
-fn is_seated(hint: u8, list: &[u16; 64], n: usize, p: Place) -> bool
+fn is_seated(list: &[u16; 64], hints: &[u8; 256], n: usize, p: Place) -> bool
     requires { ⌜ n ≤ 64 ⌝ }
     ensures { λ r. ⌜ r ≡ seatedIn (back (now (list .entry)) n) p ⌝ }
 {
     if !(p.mark == 1) {
         return true;
     }
-    is_listed(hint, list, n, p.key.association)
+    let octet = octet_of(p.key.association);
+    is_listed(hints[octet], list, n, p.key.association)
 }
 
 // Whether each open place's association is listed.
-fn all_seated(list: &[u16; 64], hints: &[u8; 256], n: usize, places: [Place; 16]) -> bool
+fn all_seated(list: &[u16; 64], hints: &[u8; 256], n: usize, t: Table) -> bool
     requires { ⌜ n ≤ 64 ⌝ }
-    ensures { λ r. ⌜ r ≡ every (seatedIn (back (now (list .entry)) n)) places ⌝ }
+    ensures { λ r. ⌜ r ≡ every (seatedIn (back (now (list .entry)) n)) (t .places) ⌝ }
 {
     let mut i = 0;
     while i < 16 {
-        let p = places[i];
-        let octet = octet_of(p.key.association);
-        if !is_seated(hints[octet], list, n, p) {
+        let p = t.places[i];
+        if !is_seated(list, hints, n, p) {
             return false;
         }
         i += 1;
@@ -282,17 +293,18 @@ fn all_seated(list: &[u16; 64], hints: &[u8; 256], n: usize, places: [Place; 16]
     true
 }
 
-// Of rows that are sound: whether no two are used for one association and each open place's has one. The associations of used rows are listed in one go; one is looked for
-// among those before it only where one of them has its low octet.
-fn are_told(m: &[u64; rules::SUMMARY], places: [Place; 16]) -> bool
-    ensures { λ r. ⌜ r ≡ (everyTwo isOther (ofThose (isUsed (now (m .entry))) (lowOf (now (m .entry))) rowCount) && every (seatedIn (ofThose (isUsed (now (m .entry))) (lowOf (now (m .entry))) rowCount)) places) ⌝ }
+// Of rows that are sound: whether no two are used for one association and each open place's has one. The associations of used rows are listed in one go, which ends with the
+// last of them; one is looked for among those before it only where one of them has its low octet.
+fn are_told(m: &[u64; rules::SUMMARY], t: Table, used: usize) -> bool
+    requires { ⌜ used ≡ length (ofThose (isUsed (now m)) (lowOf (now m)) rowCount) ⌝ }
+    ensures { λ r. ⌜ r ≡ (everyTwo isOther (ofThose (isUsed (now (m .entry))) (lowOf (now (m .entry))) rowCount) && every (seatedIn (ofThose (isUsed (now (m .entry))) (lowOf (now (m .entry))) rowCount)) (t .places)) ⌝ }
 {
     let mut list = [0u16; 64];
     let mut hints = [0u8; 256];
     let mut apart = true;
     let mut n = 0;
     let mut i = 0;
-    while i < 64 {
+    while n < used {
         if !(m[0 + i] == 1) {
             i += 1;
             continue;
@@ -305,16 +317,16 @@ fn are_told(m: &[u64; rules::SUMMARY], places: [Place; 16]) -> bool
         n += 1;
         i += 1;
     }
-    apart & all_seated(&list, &hints, n, places)
+    apart & all_seated(&list, &hints, n, t)
 }
 
 // Whether a summary is sound beside a table: any bits may be handed over.
 pub fn is_sound(m: &[u64; rules::SUMMARY], t: Table) -> bool
     ensures { λ r. ⌜ r ≡ summarySound (now (m .entry)) (t .places) ⌝ }
 {
-    if !rows_sound(m) {
+    let rows = rows_sound(m);
+    if !rows.sound {
         return false;
     }
-    let places = t.places;
-    are_told(m, places)
+    are_told(m, t, rows.used)
 }

@@ -1,23 +1,24 @@
-use Prim.Native.Nat.{_-_, _≤_}
-use mathlib.Core.Path.{_≡_}
+use Prim.Native.Nat.{_+_, _-_, _≤_}
+use mathlib.Core.Path.{_≡_, ap, _∙_}
 use native.Mathlib.Omega.{arith}
 use borrow.Author.Tests.{not-true, not-false}
 use borrow.Author.Needs.{needs}
 use Rattle.rules.specs.Summary.{rowCount, isUsed}
-use Rattle.summary.specs.Listing.{lowOf}
+use lib.ListN.{length}
+use Rattle.summary.specs.Listing.{ofThose, lowOf}
 use Rattle.rules.proofs.Rows.{row-count}
-use Rattle.summary.proofs.Flags.{Listed, none-yet, passed, added}
+use Rattle.summary.proofs.Flags.{Listed, none-yet, to-come, whole, passed, added}
 use Rattle.summary.proofs.are_told.Statement.{statement}
 use Rattle.summary.proofs.are_told.Tie as tie
 
 abbrev Inv-loop : tie.InvT-loop
-Inv-loop m places list₀ hints₀ apart₀ n₀ i₀ list hints apart n i = (i ≤ 64) × ((n ≤ i) × Listed (isUsed m) (lowOf m) list hints apart n i)
+Inv-loop m t used list₀ hints₀ apart₀ n₀ i₀ list hints apart n i = (i ≤ 64) × ((n ≤ i) × ((used + i ≤ n + 64) × Listed (isUsed m) (lowOf m) list hints apart n i))
 
 abbrev μ-loop : tie.MeasureT-loop
-μ-loop m places list₀ hints₀ apart₀ n₀ i₀ list hints apart n i = 64 - i
+μ-loop m t used list₀ hints₀ apart₀ n₀ i₀ list hints apart n i = 64 - i
 
 loop-holds : tie.Need-loop-holds Inv-loop μ-loop
-loop-holds c = (omega arith, (omega arith, none-yet _ _))
+loop-holds c = (omega arith, (omega arith, (to-come (isUsed (c .args .m .now)) (lowOf (c .args .m .now)) _ _ _ 0 0 (none-yet _ _) 64 (c .args .used) (c .pre ∙ ap (λ k. length (ofThose (isUsed (c .args .m .now)) (lowOf (c .args .m .now)) k)) row-count) (omega arith), none-yet _ _)))
 
 add-if1 : tie.Need-add-if1 Inv-loop μ-loop
 add-if1 c = omega arith
@@ -39,7 +40,8 @@ loop-again c =
     let l = c .before .before .before in
     let m = l .before .args .m .now in
     let inv = l .loop .inv .1 in
-    (omega arith, (omega arith, passed (isUsed m) (lowOf m) (l .loop .list) (l .loop .hints) (l .loop .apart) (l .loop .n) (l .loop .i) (inv .1) (not-true _ (c .if1 .taken))))
+    let more = passed (isUsed m) (lowOf m) (l .loop .list) (l .loop .hints) (l .loop .apart) (l .loop .n) (l .loop .i) (inv .1 .1) (not-true _ (c .if1 .taken)) in
+    (omega arith, (omega arith, (omega (arith, row-count, to-come _ _ _ _ _ _ _ more rowCount _ (l .before .pre) (omega (arith, row-count))), more)))
 
 add-low : tie.Need-add-low Inv-loop μ-loop
 add-low c = omega arith
@@ -91,15 +93,12 @@ loop-again-2 c =
     let e = x .before .before in
     let l = e .before .before .before in
     let m = l .before .args .m .now in
-    let inv = l .loop .inv .1 in (
-      omega arith,
-      (
-        omega arith,
-        added (isUsed m) (lowOf m) (l .loop .list) (l .loop .hints) (l .loop .apart) (l .loop .n) (l .loop .i) (inv .1) (not-false _ (e .if1 .left)) (omega arith)
-            (x .low .result) (x .low .ensures) (o .octet-of .result) (o .octet-of .ensures .0) (o .octet-of .ensures .1) (c .hint-of .result) (c .hint-of .ensures)
-            (f .is-new-if .result) (f .is-new-if .ensures),
-      ),
-    )
+    let inv = l .loop .inv .1 in
+    let more =
+    added (isUsed m) (lowOf m) (l .loop .list) (l .loop .hints) (l .loop .apart) (l .loop .n) (l .loop .i) (inv .1 .1) (not-false _ (e .if1 .left)) (omega arith)
+    (x .low .result) (x .low .ensures) (o .octet-of .result) (o .octet-of .ensures .0) (o .octet-of .ensures .1) (c .hint-of .result) (c .hint-of .ensures)
+    (f .is-new-if .result) (f .is-new-if .ensures) in
+    (omega arith, (omega arith, (omega (arith, row-count, to-come _ _ _ _ _ _ _ more rowCount _ (l .before .pre) (omega (arith, row-count))), more)))
 
 all-seated-requires : tie.Need-all-seated-requires Inv-loop μ-loop
 all-seated-requires c κs = omega arith
@@ -107,8 +106,8 @@ all-seated-requires c κs = omega arith
 returns : tie.Need-returns Inv-loop μ-loop
 returns c =
     let l = c .before .before .before .before in
-    let end : l .loop .i ≡ rowCount = omega (arith, row-count) in
-    let inv = l .loop .inv .1 .1 in
+    let inv = l .loop .inv .1 .1 .1 in
+    let end = whole _ _ _ _ _ _ _ inv rowCount _ (l .before .pre) (omega (arith, row-count)) (omega arith) in
     rw (inv .told, c .all-seated .ensures, inv .first, end)
 
 pub are-told-spec : {M : Type 1} → statement M

@@ -12,19 +12,20 @@ rows-sound-requires c κs = search needs
 returns : tie.Need-returns
 unfolding summarySound
 returns c =
-    let none = sym (c .before .rows-sound .ensures) ∙ not-true _ (c .if1 .taken) in
+    let none = sym (c .before .before .rows-sound .ensures .0) ∙ not-true _ (c .if1 .taken) in
     rw none
 
 are-told-requires : tie.Need-are-told-requires
-are-told-requires c κs = search needs
+are-told-requires c κs = c .before .before .rows-sound .ensures .1 (not-false _ (c .if1 .left))
 
 returns-2 : tie.Need-returns-2
 unfolding summarySound
 returns-2 c =
-    let e = c .before .before in
-    let s = e .before .before in
+    let e = c .before in
+    let r = e .before .before in
+    let s = r .before in
     let m = s .args .m .now in
-    let all = sym (e .before .rows-sound .ensures) ∙ not-false _ (e .if1 .left) in
+    let all = sym (r .rows-sound .ensures .0) ∙ not-false _ (e .if1 .left) in
     rw (c .are-told .ensures, all, low-apart m all, low-seated m all (s .args .t .places))
 
 pub is-sound-spec : {M : Type 1} → statement M

@@ -1,24 +1,28 @@
 use Prim.Native.Nat.{_-_, _≤_}
-use mathlib.Core.Path.{_≡_, refl, sym}
+use mathlib.Core.Path.{_≡_, refl, sym, ap, _∙_}
+use mathlib.Core.Bool.{true}
 use native.Mathlib.Numerals.{add-one}
 use native.Mathlib.Omega.{arith}
 use borrow.Author.Needs.{needs}
 use lib.Dec.{eqb, leb}
-use Rattle.rules.specs.Summary.{everyBelow, rowCount}
+use lib.ListN.{length}
+use Rattle.rules.specs.Summary.{everyBelow, rowCount, isUsed}
+use Rattle.summary.specs.Listing.{ofThose, lowOf}
 use Rattle.rules.proofs.Rows.{row-count}
-use Rattle.summary.proofs.Sound.{markSound, nameSound, restSound, rows-are}
+use Rattle.summary.proofs.Sound.{markSound, nameSound, restSound, first-of, rows-are}
+use Rattle.summary.proofs.Counted.{count-more}
 use Rattle.summary.proofs.Bits.{or-zero, or-below}
 use Rattle.summary.proofs.rows_sound.Statement.{statement}
 use Rattle.summary.proofs.rows_sound.Tie as tie
 
 abbrev Inv-loop : tie.InvT-loop
-Inv-loop m marks₀ names₀ rest₀ i₀ marks names rest i = (i ≤ 64) × ((leb marks 1 ≡ everyBelow i (markSound m)) × ((leb names 65535 ≡ everyBelow i (nameSound m)) × (eqb rest 0 ≡ everyBelow i (restSound m))))
+Inv-loop m marks₀ names₀ rest₀ used₀ i₀ marks names rest used i = (i ≤ 64) × ((leb marks 1 ≡ everyBelow i (markSound m)) × ((leb names 65535 ≡ everyBelow i (nameSound m)) × ((eqb rest 0 ≡ everyBelow i (restSound m)) × ((used ≤ i) × (everyBelow i (markSound m) ≡ true → used ≡ length (ofThose (isUsed m) (lowOf m) i))))))
 
 abbrev μ-loop : tie.MeasureT-loop
-μ-loop m marks₀ names₀ rest₀ i₀ marks names rest i = 64 - i
+μ-loop m marks₀ names₀ rest₀ used₀ i₀ marks names rest used i = 64 - i
 
 loop-holds : tie.Need-loop-holds Inv-loop μ-loop
-loop-holds c = (omega arith, (refl, (refl, refl)))
+loop-holds c = (omega arith, (refl, (refl, (refl, (omega arith, λ e. refl)))))
 
 add-mark : tie.Need-add-mark Inv-loop μ-loop
 add-mark c = omega arith
@@ -44,6 +48,9 @@ rest-of-requires c κs = search needs
 unmarked-requires : tie.Need-unmarked-requires Inv-loop μ-loop
 unmarked-requires c κs = search needs
 
+add-used : tie.Need-add-used Inv-loop μ-loop
+add-used c = omega arith
+
 add-i : tie.Need-add-i Inv-loop μ-loop
 add-i c = omega arith
 
@@ -54,13 +61,17 @@ loop-again : tie.Need-loop-again Inv-loop μ-loop
 loop-again c =
     let l = c .before .before .before .before .before in
     let inv = l .loop .inv .1 in
+    let m = l .before .args .m .now in
     let i = l .loop .i in (
       omega arith,
       (
         rw (add-one i, or-below 1 _ _ 1 refl, inv .0),
         (
           rw (add-one i, or-below 16 _ _ 65535 refl, inv .1 .0),
-          rw (add-one i, or-zero, c .unmarked .ensures, c .before .rest-of .ensures, inv .1 .1),
+          (
+            rw (add-one i, or-zero, c .unmarked .ensures, c .before .rest-of .ensures, inv .1 .1 .0),
+            (omega arith, count-more m (lowOf m) i (l .loop .used) (inv .1 .1 .1 .1)),
+          ),
         ),
       ),
     )
@@ -70,7 +81,10 @@ returns c =
     let l = c .before in
     let inv = l .loop .inv .1 in
     let end : l .loop .i ≡ rowCount = omega (arith, row-count) in
-    rw (inv .0, inv .1 .0, inv .1 .1, end) (sym (rows-are (l .before .args .m .now) rowCount))
+    let m = l .before .args .m .now in (
+      rw (inv .0, inv .1 .0, inv .1 .1 .0, end) (sym (rows-are m rowCount)),
+      λ e. inv .1 .1 .1 .1 (sym (inv .0) ∙ first-of _ _ (first-of _ _ e)) ∙ ap (λ k. length (ofThose (isUsed m) (lowOf m) k)) end,
+    )
 
 pub rows-sound-spec : {M : Type 1} → statement M
 rows-sound-spec =
@@ -87,6 +101,7 @@ rows-sound-spec =
     element-copy-out-names
     rest-of-requires
     unmarked-requires
+    add-used
     add-i
     loop-less
     loop-again
