@@ -14,7 +14,7 @@ use Rattle.demands.specs.Timer.{Timer}
 use Rattle.demands.specs.Release.{Release}
 use Rattle.demands.specs.Soundness.{Sound}
 use Rattle.demands.specs.Exactly.{Octets, Exactly}
-use Rattle.demands.specs.Follows.{Orderly, Billed, Unforgetting}
+use Rattle.demands.specs.Follows.{Orderly, Billed, Unforgetting, OneForm}
 use Rattle.demands.specs.Demanded.{Demanded, Begun}
 use Rattle.demands.specs.Totals.{Totals, Balance}
 use Rattle.demands.specs.Replayed.{Replayed}
@@ -25,6 +25,7 @@ use Rattle.demands.proofs.Kept as Kept
 use Rattle.demands.proofs.Timing as Timing
 use Rattle.demands.proofs.Releasing as Releasing
 use Rattle.demands.proofs.Follows as Follows
+use Rattle.demands.proofs.OneForm as Form
 use Rattle.demands.proofs.Totalling as Totalling
 use Rattle.demands.proofs.Balancing as Balancing
 use Rattle.demands.proofs.Demanded as One
@@ -74,6 +75,9 @@ billed = Follows.billed
 
 pub unforgetting : (m : Machine) → Unforgetting m
 unforgetting = Follows.unforgetting
+
+pub one-form : (m : Machine) → Demand1 m → OneForm m
+one-form = Form.one-form
 
 -- all of it of one call, along any history that matches: what the contracts of the crate demanded say of the code
 pub of-call : (st : State) (c : Call) → InRange c → isOpening c ≡ false → Demanded (seenBy ours st c)

@@ -18,6 +18,7 @@ pub mod Kept
 pub mod Timing
 pub mod Releasing
 pub mod Follows
+pub mod OneForm
 pub mod Demanded
 pub mod Replayed
 pub mod Columns

@@ -7,9 +7,9 @@ use mathlib.Core.Bool.{Bool, true, false, true≢false}
 use mathlib.Core.List.{List, [], _∷_}
 use lib.ListN.{length, getD, replicate, length-replicate}
 use Rattle.octets.specs.Splice.{splice}
-use Rattle.rules.specs.General.{if_then_else_, every}
+use Rattle.rules.specs.General.{if_then_else_, every, those}
 use Rattle.rules.specs.Numbers.{elapsed, storeLeast, placeCount, addressMost}
-use Rattle.rules.specs.Refusals.{accepted}
+use Rattle.rules.specs.Refusals.{Check, accepted}
 use Rattle.rules.specs.Layout.{fieldsOf, readingChecks, parameterOctets}
 use Rattle.rules.specs.Records.{recordOctets, recordFrom, recordLength}
 use Rattle.rules.specs.Places.{sameKey, isFree, placeOf, lowestFree, freePlace}
@@ -21,7 +21,8 @@ use Rattle.rules.specs.Delivery.{delivery}
 use Rattle.rules.specs.Opening.{noEntry, opening}
 use Rattle.rules.specs.Sending.{segmentOctets, sendingChecks, sending}
 use Rattle.rules.specs.Examples.{fresh}
-use Rattle.rules.specs.Calls.{State, stateOf, Opening, Call, Opens, Arrives, Ticks, Releases, Sends, toArrive, toTick, toRelease, Decided, Undecided, As, Answer, Outcome, step}
+use Rattle.rules.specs.Calls.{State, stateOf, Opening, Call, Opens, Arrives, Ticks, Releases, Sends, toArrive, toTick, toRelease, Decided, Undecided, As, Answer, refusing, Outcome, step}
+use Rattle.rules.proofs.Refusals.{judged-by}
 use Rattle.rules.specs.declared.Entry.{Entry}
 use Rattle.rules.specs.declared.Key.{Key}
 use Rattle.rules.specs.declared.Part.the-variants.{OfStore}
@@ -37,8 +38,8 @@ use Rattle.demands.specs.Release.{Release}
 use Rattle.demands.specs.Totals.{totalsOf, Totals}
 use Rattle.demands.specs.Exactly.{Exactly, Bits, OfPlace, OfEntry, OfState, OfCall}
 use Rattle.demands.specs.Wrong
-use Rattle.demands.specs.Wrong.{joining, unchanged, sweeping, emptying, asRuled, asSummed}
-use Rattle.demands.specs.Wrong.{refuses, losesAll, forgets, savesFirst, invents, inventsOctets, neverRefuses, swallows, handsOutEarly, handsOutMore}
+use Rattle.demands.specs.Wrong.{joining, unchanged, checking, allMade, sweeping, emptying, asRuled, asSummed}
+use Rattle.demands.specs.Wrong.{refuses, losesAll, forgets, savesFirst, invents, inventsOctets, neverRefuses, takesPadded, swallows, handsOutEarly, handsOutMore}
 use Rattle.demands.specs.Wrong.{losesNothing, releasesNothing, recordsSending, clearsRegistry, movesTimer, movesClock}
 use Rattle.demands.specs.Wrong.{leavesOut, setsSpare, cutsPast, cutsByClock, writesNonsense}
 use Rattle.demands.specs.Wrong.{comparesNumbers, comparesFilled, takesHighest, losesEmpty, joinsOverGap, exchangesCauses, callsItDelivered}
@@ -60,6 +61,20 @@ joining-ours st (Arrives x) = as-ours st (Arrives x) (λ e. simp e)
 joining-ours st (Ticks x) = as-ours st (Ticks x) (λ e. refl)
 joining-ours st (Releases x) = as-ours st (Releases x) (λ e. refl)
 joining-ours st (Sends x) = as-ours st (Sends x) (λ e. refl)
+
+all-made : (cs : List Check) → those allMade cs ≡ cs
+all-made [] = refl
+all-made (c ∷ cs) = rw (all-made cs)
+
+pub checking-ours : (st : State) (c : Call) → checking allMade .step st c ≡ step st c
+unfolding step segmentWith
+checking-ours st (Opens x) = refl
+checking-ours st (Arrives x) =
+    rw (all-made (checksOf st (Arrives x)))
+    (judged-by (λ (o : Outcome). o ≡ step st (Arrives x)) (checksOf st (Arrives x)) (λ n. record { answer = refusing n (Arrives x); state = st }) _ (λ e. simp e) (λ e. simp e))
+checking-ours st (Ticks x) = refl
+checking-ours st (Releases x) = refl
+checking-ours st (Sends x) = refl
 
 pub sweeping-ours : (st : State) (c : Call) → sweeping isDue .step st c ≡ step st c
 unfolding step clockWith clockChecksWith
@@ -111,6 +126,10 @@ keyWith reference = record { address = replicate 20 0; association = 9; context 
 -- an unsegmented parameter with one octet
 abbrev alone : List ℕ
 alone = 0x83 ∷ 0x80 ∷ 0xC0 ∷ 0xAA ∷ []
+
+-- M12: the same in context 3 padded to two octets
+abbrev padded : List ℕ
+padded = 0x03 ∷ 0x80 ∷ 0x80 ∷ 0xC0 ∷ 0xAA ∷ []
 
 -- M3: two octets in two segments, the first with instruction 1
 abbrev m3 : List ℕ
@@ -329,6 +348,11 @@ rejects-inventsOctets-2 d = let z : _≡_ {A = ℕ} 3 2 = ap (nth 10) (trip2 d .
 pub rejects-neverRefuses : Demand1 neverRefuses → ⊥
 unfolding computing
 rejects-neverRefuses d = let z : _≡_ {A = ℕ} 0 5 = d .every before (toArrive 9 [] one) .number in omega arith
+
+-- M12, the padded context 3, is accepted where the rules refuse it with 23
+pub rejects-takesPadded : Demand1 takesPadded → ⊥
+unfolding computing
+rejects-takesPadded d = let z : _≡_ {A = ℕ} 0 23 = d .every before (toArrive 9 padded one) .number in omega arith
 
 -- an unsegmented parameter is neither covered nor held
 pub rejects-swallows : Demand3 swallows → ⊥

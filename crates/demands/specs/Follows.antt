@@ -1,17 +1,20 @@
 -- WHAT FOLLOWS. Of any machine that meets demand 3: what is delivered came in order, an unsegmented parameter's record covers it alone, and the octets of its Delivered records, which
--- are what is billed, are as many as were handed over. Of any machine: since the last opening nothing that was accepted is forgotten by the history, or covered twice.
+-- are what is billed, are as many as were handed over. Of any machine that meets demand 1: a context has one form only in what it accepts. Of any machine: since the last opening nothing that was accepted is forgotten by the history, or covered twice.
 use Prim.Native.Nat.{ℕ, _+_, _<_}
 use mathlib.Core.Path.{_≡_}
 use mathlib.Core.Bool.{true, false}
 use mathlib.Core.List.{List, [], _∷_, _++_}
-use lib.ListN.{length}
+use lib.ListN.{length, take}
 use Rattle.rules.specs.General.{if_then_else_}
+use Rattle.rules.specs.Layout.{contextOf, at2, contextOctets}
 use Rattle.rules.specs.Records.{delivered}
 use Rattle.rules.specs.Places.{sameKey}
 use Rattle.rules.specs.Lines.{octetsOf}
+use Rattle.rules.specs.Calls.{State, Arrives, Arrival}
 use Rattle.rules.specs.declared.Key.{Key}
 use Rattle.demands.specs.Machine.{Machine, All}
 use Rattle.demands.specs.Seen.{Seen}
+use Rattle.demands.specs.Exactly.{Octets}
 use Rattle.demands.specs.History.{Segment, Taken, Cover, Told, recordsIn, after, covers, Meets}
 
 -- segments that begin with a new one and count down by one to 0
@@ -54,3 +57,15 @@ pub record Complete (h : Told) : Type 0 where
 
 abbrev pub Unforgetting : Machine → Type 0
 Unforgetting m = Meets (λ (h : Told) (x : Seen). Complete (after h x)) m
+
+-- the octets of a parameter's context, as they came
+abbrev pub contextPart : List ℕ → List ℕ
+contextPart s = take (at2 s) s
+
+-- document 02, A2: of two parameters that are accepted, at any two states, equal contexts mean equal context octets; these are the shortest form, which we write ourselves
+pub record OneForm (m : Machine) : Type 0 where
+  pub shortest : (st : State) (x : Arrival) → Octets (x .parameter) → m .step st (Arrives x) .answer .refusal ≡ 0
+      → contextPart (x .parameter) ≡ contextOctets (contextOf (x .parameter))
+  pub equal : (st st′ : State) (x x′ : Arrival) → Octets (x .parameter) → Octets (x′ .parameter)
+      → m .step st (Arrives x) .answer .refusal ≡ 0 → m .step st′ (Arrives x′) .answer .refusal ≡ 0
+      → contextOf (x .parameter) ≡ contextOf (x′ .parameter) → contextPart (x .parameter) ≡ contextPart (x′ .parameter)

@@ -6,9 +6,9 @@ use lib.Dec.{eqb, leb, ltb}
 use lib.ListN.{length, take, drop, getD, set, replicate}
 use Rattle.octets.specs.Number.{number}
 use Rattle.octets.specs.Splice.{splice}
-use Rattle.rules.specs.General.{if_then_else_, every}
+use Rattle.rules.specs.General.{if_then_else_, every, those}
 use Rattle.rules.specs.Numbers.{addressMost, stretchLength, placeStart, parameterMost}
-use Rattle.rules.specs.Refusals.{accepted}
+use Rattle.rules.specs.Refusals.{Check, accepted, judged}
 use Rattle.rules.specs.Registry.{kindOf}
 use Rattle.rules.specs.Records.{delivered, lost, recordOctets, recordsOctets}
 use Rattle.rules.specs.Layout.{isUnsegmented, fieldsOf, contextOctets, parameterOctets}
@@ -254,8 +254,9 @@ Deciding = Bool → ℕ → ℕ → Heading → ℕ → Line
 abbrev Changing : Type 0
 Changing = Line → Table → Fields → Found → Place → Effect → Effect
 
-abbrev pub joining : Finding → Choosing → Deciding → Changing → Machine
-joining find choose decide change = whereAccepted (onSegment (λ st x.
+-- what an accepted segment comes to
+abbrev joined : Finding → Choosing → Deciding → Changing → State → Arrival → Outcome
+joined find choose decide change st x =
     let f : Fields = fieldsOf (st .table .registry) (x .parameter) in
     let key : Key = keyOf (x .association) (x .parameter) f in
     let octets : List ℕ = informationOf (x .parameter) f in
@@ -264,7 +265,10 @@ joining find choose decide change = whereAccepted (onSegment (λ st x.
     let line : Line = decide (isAt place) (p .remaining .0) (p .octets) (f .heading) (length octets) in
     let e : Effect = effectOf line (st .table) (st .store) key f octets place p (choose (st .table .places)) in
     let m : List ℕ = segmentSums (st .table) (st .summary) (st .store) (x .report) (x .association) (x .parameter) in
-    afterSegment (counting m (receptionOf (st .table) (x .report) (change line (st .table) f place p e)))))
+    afterSegment (counting m (receptionOf (st .table) (x .report) (change line (st .table) f place p e)))
+
+abbrev pub joining : Finding → Choosing → Deciding → Changing → Machine
+joining find choose decide change = whereAccepted (onSegment (joined find choose decide change))
 
 abbrev pub unchanged : Changing
 unchanged line t f place p e = e
@@ -380,6 +384,18 @@ startedAt time p = openPlace (p .key) (p .remaining) (p .instruction) (p .segmen
 abbrev pub startsAnew : Machine
 startsAnew = changing (λ line t f place p e.
     if isNext line then leaving e (putPlace (e .places) place (startedAt (t .clock) (placeAt (e .places) place))) else e)
+
+-- THE CHECKS OF A SEGMENT, as the rules have them but for those that are not made
+abbrev pub checking : (Check → Bool) → Machine
+checking isMade = stepping (onSegment (λ st x.
+    judged (those isMade (checksOf st (Arrives x))) (λ n. outcome (refusing n (Arrives x)) st) (joined placeOf lowestFree lineOf unchanged st x)))
+
+abbrev pub allMade : Check → Bool
+allMade c = true
+
+-- a padded context is taken, as it was before document 02's A2
+abbrev pub takesPadded : Machine
+takesPadded = checking (λ c. not (eqb (c .number) 23))
 
 -- THE CLOCK'S CALLS, as the rules have them but for the test of what is due
 abbrev pub sweeping : (ℕ → ℕ → Place → Bool) → Machine

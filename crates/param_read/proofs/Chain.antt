@@ -10,7 +10,7 @@ use Rattle.rules.specs.General.{if_then_else_}
 use Rattle.rules.specs.Numbers.{parameterMost}
 use Rattle.rules.specs.Refusals.{Check, _when_, judged}
 use Rattle.rules.specs.Registry.{kindOf}
-use Rattle.rules.specs.Layout.{octet, isUnsegmented, isNew, remainingOf, pastAddress, at2, at3, originAt, contextOf, referenceOf, headingOf, fieldsOf, lastChecks, contextChecks, sequenceChecks, addressChecks, addressesChecks, readingChecks}
+use Rattle.rules.specs.Layout.{octet, isUnsegmented, isNew, remainingOf, pastAddress, at2, at3, originAt, contextOf, referenceOf, headingOf, fieldsOf, lastChecks, isPadded, secondChecks, contextChecks, sequenceChecks, addressChecks, addressesChecks, readingChecks}
 use Rattle.rules.proofs.Refusals.{judged-append, judged-then}
 use Rattle.rules.specs.declared.Context.{Context}
 use Rattle.rules.specs.declared.Entry.{Entry}
@@ -36,12 +36,16 @@ knownField registry x next = if eqb (kindOf registry (x .0)) 0 then NoContext 8 
 -- octet 1a after octet 1
 abbrev pub after1a : List Entry → ℕ → LastField → ContextField
 after1a registry x (NotLast n) = NoContext n
-after1a registry x (LastIs y next) = knownField registry (record { 0 = x % 128 + 128 * (y % 128) }) next
+after1a registry x (LastIs y next) = if eqb (y % 128) 0 then NoContext 23 else knownField registry (record { 0 = x % 128 + 128 * (y % 128) }) next
 
 -- one check alone
 judged-one : {A : Type 0} (n : ℕ) (b : Bool) (f : ℕ → A) (a : A) → judged (n when b ∷ []) f a ≡ (if b then f n else a)
 judged-one n true f a = refl
 judged-one n false f a = refl
+
+-- .. and as the last of several
+judged-last : {A : Type 0} (xs : List Check) (n : ℕ) (b : Bool) (f : ℕ → A) (a : A) → judged (xs ++ (n when b ∷ [])) f a ≡ judged xs f (if b then f n else a)
+judged-last xs n b f a = judged-append xs (n when b ∷ []) f a ∙ ap (judged xs f) (judged-one n b f a)
 
 module _ (registry : List Entry) (s : List ℕ) (there : leb (length s) 0 ≡ false) where
   pub context-one : leb 128 (octet s 0) ≡ true → contextField registry s ≡ knownField registry (record { 0 = octet s 0 % 128 }) 1
@@ -52,8 +56,10 @@ module _ (registry : List Entry) (s : List ℕ) (there : leb (length s) 0 ≡ fa
   unfolding contextField lastField
   context-two e =
       let x : Context = record { 0 = octet s 0 % 128 + 128 * (octet s 1 % 128) } in
-      let one = judged-one 8 (eqb (kindOf registry (x .0)) 0) NoContext (ContextIs x (kindOf registry (x .0)) 2) in
-      simp (there, e) (judged-append (lastChecks s 1) (8 when eqb (kindOf registry (x .0)) 0 ∷ []) NoContext _ ∙ rw one (sym (judged-then (after1a registry (octet s 0)) (lastChecks s 1) NotLast (LastIs (octet s 1) 2))))
+      simp (there, e)
+      (judged-last (secondChecks s) 8 (eqb (kindOf registry (x .0)) 0) NoContext (ContextIs x (kindOf registry (x .0)) 2)
+      ∙ judged-last (lastChecks s 1) 23 (isPadded s) NoContext (knownField registry x 2)
+      ∙ sym (judged-then (after1a registry (octet s 0)) (lastChecks s 1) NotLast (LastIs (octet s 1) 2)))
 
 -- octet 3a after octet 3
 abbrev pub after3a : ℕ → LastField → SequenceField
@@ -72,10 +78,10 @@ module _ (s : List ℕ) (at : ℕ) (there : leb (length s) at ≡ false) where
   sequence-two e =
       let x : ℕ = octet s at in
       let past : at + 2 ≡ at + 1 + 1 = omega arith in
-      let one = judged-one 7 (isUnsegmented (isNew x) (remainingOf x)) NoSequence (SequenceIs (record { new = isNew x; remaining = record { 0 = remainingOf x }; reference = record { 0 = octet s (at + 1) % 128 } }) (at + 1 + 1)) in
+      let q : Sequence = record { new = isNew x; remaining = record { 0 = remainingOf x }; reference = record { 0 = octet s (at + 1) % 128 } } in
       simp (there, e, beq-true, past)
-      (judged-append (lastChecks s (at + 1)) (7 when isUnsegmented (isNew x) (remainingOf x) ∷ []) NoSequence _
-      ∙ rw one (sym (judged-then (after3a x) (lastChecks s (at + 1)) NotLast (LastIs (octet s (at + 1)) (at + 1 + 1)))))
+      (judged-last (lastChecks s (at + 1)) 7 (isUnsegmented (isNew x) (remainingOf x)) NoSequence (SequenceIs q (at + 1 + 1))
+      ∙ sym (judged-then (after3a x) (lastChecks s (at + 1)) NotLast (LastIs (octet s (at + 1)) (at + 1 + 1))))
 
 -- the destination after the origin
 abbrev pub afterDestination : ℕ → ℕ → AddressField → AddressesField

@@ -82,11 +82,14 @@ fn last_field(s: &[u8], at: usize) -> LastField
     LastField::LastIs(x, at + 1)
 }
 
-// The context with its kind, where it is registered.
-fn known(registry: [Entry; 8], context: Context, next: usize) -> ContextField
-    ensures { λ r. ⌜ r ≡ (if eqb (kindOf registry (context .0)) 0 then ContextField.NoContext 8 else ContextField.ContextIs context (kindOf registry (context .0)) next) ⌝ }
+// The context with its kind, where it is not padded and is registered.
+fn known(registry: [Entry; 8], context: Context, padded: bool, next: usize) -> ContextField
+    ensures { λ r. ⌜ r ≡ (if padded then ContextField.NoContext 23 else (if eqb (kindOf registry (context .0)) 0 then ContextField.NoContext 8 else ContextField.ContextIs context (kindOf registry (context .0)) next)) ⌝ }
 {
     let kind = registry::kind_of(registry, context);
+    if padded {
+        return ContextField::NoContext(23);
+    }
     if kind == 0 {
         return ContextField::NoContext(8);
     }
@@ -101,12 +104,13 @@ fn context_field(registry: [Entry; 8], s: &[u8]) -> ContextField
     }
     let x = s[0];
     if 128 <= x {
-        return known(registry, Context(wide(x % 128)), 1);
+        return known(registry, Context(wide(x % 128)), false, 1);
     }
     match last_field(s, 1) {
         LastField::NotLast(n) => ContextField::NoContext(n),
         LastField::LastIs(y, next) => {
-            known(registry, Context(wide(x % 128) + 128 * wide(y % 128)), next)
+            let context = Context(wide(x % 128) + 128 * wide(y % 128));
+            known(registry, context, y % 128 == 0, next)
         }
     }
 }

@@ -6,7 +6,7 @@ use mathlib.Core.List.{List, [], _∷_, _++_}
 use native.Mathlib.Omega.{arith}
 use Rattle.rules.specs.General.{if_then_else_}
 use Rattle.rules.specs.Refusals.{Check, accepted, first}
-use Rattle.rules.specs.Layout.{has1a, has3a, octet, at2, at3, hasAddresses, originAt, pastAddress, contextOf, lastChecks, contextChecks, sequenceChecks, addressChecks, addressesChecks, readingChecks}
+use Rattle.rules.specs.Layout.{has1a, has3a, octet, at2, at3, hasAddresses, originAt, pastAddress, contextOf, lastChecks, secondChecks, contextChecks, sequenceChecks, addressChecks, addressesChecks, readingChecks}
 use Rattle.rules.specs.Registry.{kindOf}
 use Rattle.rules.specs.Receiving.{segmentChecks}
 use Rattle.rules.specs.declared.Entry.{Entry}
@@ -19,8 +19,11 @@ last-least s at = (omega arith, (omega arith, tt))
 address-least : (s : List ℕ) (at : ℕ) → Least 2 (addressChecks s at)
 address-least s at = (omega arith, (omega arith, (omega arith, tt)))
 
+second-least : (s : List ℕ) → Least 2 (secondChecks s)
+second-least s = (omega arith, (omega arith, (omega arith, tt)))
+
 context-least : (registry : List Entry) (s : List ℕ) → Least 2 (contextChecks registry s)
-context-least registry s = (omega arith, least-append 2 (if has1a s then lastChecks s 1 else []) _ (least-if 2 (has1a s) _ _ (last-least s 1) tt) (omega arith, tt))
+context-least registry s = (omega arith, least-append 2 (if has1a s then secondChecks s else []) _ (least-if 2 (has1a s) _ _ (second-least s) tt) (omega arith, tt))
 
 sequence-least : (s : List ℕ) (at : ℕ) → Least 2 (sequenceChecks s at)
 sequence-least s at =

@@ -24,3 +24,4 @@ pub mod Rows
 pub mod Fitting
 pub mod Seats
 pub mod Least
+pub mod Shortest

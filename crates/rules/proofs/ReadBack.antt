@@ -5,7 +5,7 @@ use mathlib.Core.Bool.{Bool, true, false, and-eq-true-iff}
 use mathlib.Core.List.{List, [], _∷_, _++_, append-assoc}
 use native.Mathlib.Nat.{add-zero}
 use native.Mathlib.Omega.{arith}
-use borrow.Author.Tests.{ltb-true, eqb-true, eqb-false, le-ltb, le-leb, lt-leb, ne-eqb, not-true, not-false}
+use borrow.Author.Tests.{ltb-true, ltb-false, eqb-true, eqb-false, le-ltb, le-leb, lt-leb, ne-eqb, not-true, not-false}
 use lib.Dec.{eqb, ltb}
 use lib.ListN.{length, take, drop, length-append, length-drop}
 use lib.Seq.{getD-drop, drop-drop, take-append-seam, drop-append-seam}
@@ -72,9 +72,11 @@ context-back r x rest most known = go (ltb x 128) refl
         let m : x % 128 % 128 + 128 * ((128 + x / 128) % 128) ≡ x = omega arith in
         let there : 0 < length (x % 128 ∷ (128 + x / 128) ∷ rest) = omega arith in
         let there1 : 1 < length (x % 128 ∷ (128 + x / 128) ∷ rest) = omega arith in
+        let over = ltb-false x 128 t in
+        let upper : (128 + x / 128) % 128 ≡ 0 → ⊥ = λ e. omega arith in
         record {
           value = simp (lt-leb _ _ low, m);
-          checks = simp (lt-leb _ _ there, lt-leb _ _ there1, lt-leb _ _ low, le-leb _ _ b, m, unknown);
+          checks = simp (lt-leb _ _ there, lt-leb _ _ there1, lt-leb _ _ low, le-leb _ _ b, ne-eqb _ _ upper, m, unknown);
           past = simp (lt-leb _ _ low);
         }
 

@@ -11,7 +11,7 @@ use Rattle.rules.specs.General.{if_then_else_}
 use Rattle.rules.specs.Numbers.{parameterMost, addressMost, referenceMost}
 use Rattle.rules.specs.Refusals.{Check, _when_, accepted}
 use Rattle.rules.specs.Registry.{kindOf}
-use Rattle.rules.specs.Layout.{octet, has1a, has3a, isMissing, isUnsegmented, isNew, remainingOf, referenceOf, contextOf, at2, at3, originAt, hasAddresses, fieldsOf, lastChecks, contextChecks, sequenceChecks, addressesChecks, readingChecks}
+use Rattle.rules.specs.Layout.{octet, has1a, has3a, isMissing, isUnsegmented, isNew, remainingOf, referenceOf, contextOf, at2, at3, originAt, hasAddresses, fieldsOf, lastChecks, secondChecks, contextChecks, sequenceChecks, addressesChecks, readingChecks}
 use Rattle.rules.specs.declared.Entry.{Entry}
 use Rattle.rules.proofs.Refusals.{accepted-both, accepted-one}
 
@@ -47,10 +47,12 @@ module _ (registry : List Entry) (s : List ℕ) (e : accepted (readingChecks reg
   context : (accepted (four ++ contextChecks registry s) ≡ true) × (accepted (lastChecks s (at2 s)) ≡ true)
   context = accepted-both (four ++ contextChecks registry s) (lastChecks s (at2 s)) (sequence .0)
 
+  pub context-accepted : accepted (contextChecks registry s) ≡ true
+  context-accepted = accepted-both four (contextChecks registry s) (context .0) .1
+
   pub context-registered : kindOf registry (contextOf s) ≡ 0 → ⊥
   context-registered =
-      let here = accepted-both four (contextChecks registry s) (context .0) .1 in
-      let last = accepted-both ((5 when isMissing s 0 ∷ []) ++ (if has1a s then lastChecks s 1 else [])) (8 when eqb (kindOf registry (contextOf s)) 0 ∷ []) here .1 in
+      let last = accepted-both ((5 when isMissing s 0 ∷ []) ++ (if has1a s then secondChecks s else [])) (8 when eqb (kindOf registry (contextOf s)) 0 ∷ []) context-accepted .1 in
       eqb-false (kindOf registry (contextOf s)) 0 (accepted-one (8 when eqb (kindOf registry (contextOf s)) 0) last)
 
   -- octet 3a is there where the parameter is segmented

@@ -114,8 +114,8 @@ examples =
     ∷ arrives
     ((0x84 ∷ 0x80 ∷ 0x41 ∷ 0x85 ∷ 0x02 ∷ 0x00 ∷ 0x07 ∷ 0x00 ∷ 0xAA ∷ []) ∷ (0x84 ∷ 0x80 ∷ 0x41 ∷ 0x85 ∷ 0x01 ∷ 0x07 ∷ 0x00 ∷ 0xBB ∷ []) ∷ [])
     (saved 1 ∷ saved 2 ∷ [])
-    -- M12: context 3, Delivered
-    ∷ arrives ((0x03 ∷ 0x80 ∷ 0x80 ∷ 0xC0 ∷ 0xAA ∷ []) ∷ []) (ended (16 ∷ 0 ∷ 9 ∷ 0 ∷ 3 ∷ 255 ∷ 0 ∷ 0 ∷ 1 ∷ 0 ∷ 1 ∷ 0 ∷ []) (0xAA ∷ []) ∷ [])
+    -- M12, padded: 23, as document 02's A2 has it
+    ∷ arrives ((0x03 ∷ 0x80 ∷ 0x80 ∷ 0xC0 ∷ 0xAA ∷ []) ∷ []) (refusedWith 23 0 ∷ [])
     -- M13 n = 5: R1 = 8 one segment; R1 = R = 7 two, carrying 3 and 2. n = 2,048: R1 = R = 209 ten segments; 208 refused 18
     ∷ cuts five 8 8 0 (Made 0 1 8 (0x83 ∷ 0x80 ∷ 0xC0 ∷ five))
     ∷ cuts five 7 7 0 (Made 0 2 7 (0x83 ∷ 0x80 ∷ 0x41 ∷ 0x85 ∷ 1 ∷ 2 ∷ 3 ∷ []))

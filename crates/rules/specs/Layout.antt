@@ -96,7 +96,7 @@ fieldsAt g s at =
 unfoldable pub fieldsOf : List Entry → List ℕ → Fields
 fieldsOf registry s = fieldsAt (headingOf registry s) s (originAt s)
 
--- Refusals 4 to 9, by the octets from left to right
+-- Refusals 4 to 9 and 23, by the octets from left to right
 
 -- the parameter ends before this octet
 abbrev pub isMissing : List ℕ → ℕ → Bool
@@ -109,11 +109,19 @@ lastChecks s at =
     ∷ 6 when not (isLast (octet s at))
     ∷ []
 
--- 8 stands at the context's last octet
+-- octet 1a has a zero upper part: the context is padded (document 02, A2)
+abbrev pub isPadded : List ℕ → Bool
+isPadded s = eqb (octet s 1 % 128) 0
+
+-- 23 stands at octet 1a, after 6
+abbrev pub secondChecks : List ℕ → List Check
+secondChecks s = lastChecks s 1 ++ (23 when isPadded s ∷ [])
+
+-- 8 stands at the context's last octet, after 23
 abbrev pub contextChecks : List Entry → List ℕ → List Check
 contextChecks registry s =
     (5 when isMissing s 0 ∷ [])
-    ++ (if has1a s then lastChecks s 1 else [])
+    ++ (if has1a s then secondChecks s else [])
     ++ (8 when eqb (kindOf registry (contextOf s)) 0 ∷ [])
 
 -- 7 stands at octet 3, once 3a, if present, has passed 5 and 6: 3a is absent exactly when the indicator is 1 and remaining is 0

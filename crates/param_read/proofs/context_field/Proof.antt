@@ -39,11 +39,11 @@ wide-requires-2 c κs = search needs
 wide-requires-3 : tie.Need-wide-requires-3
 wide-requires-3 c κs = search needs
 
-mul-t20 : tie.Need-mul-t20
-mul-t20 c = search needs
+mul-t21 : tie.Need-mul-t21
+mul-t21 c = search needs
 
-add-t21 : tie.Need-add-t21
-add-t21 c = search needs
+add-t22 : tie.Need-add-t22
+add-t22 c = search needs
 
 known-requires-2 : tie.Need-known-requires-2
 known-requires-2 c κs = search needs
@@ -77,8 +77,8 @@ context-field-spec =
     enum-known-y
     wide-requires-2
     wide-requires-3
-    mul-t20
-    add-t21
+    mul-t21
+    add-t22
     known-requires-2
     returns-3
     returns-4)

@@ -1,0 +1,45 @@
+-- Of what a machine that meets demand 1 accepts, a context has one form.
+use Prim.Native.Nat.{ℕ, zero, suc, _<_}
+use mathlib.Core.Path.{_≡_, refl, sym, ap, _∙_}
+use mathlib.Core.Bool.{Bool, true, false}
+use mathlib.Core.List.{List, [], _∷_}
+use native.Mathlib.Omega.{arith}
+use Rattle.rules.specs.Refusals.{accepted}
+use Rattle.rules.specs.Layout.{octet, contextOf, contextOctets, readingChecks}
+use Rattle.rules.specs.Calls.{State, Arrives, Arrival}
+use Rattle.rules.proofs.Answers.{segment-accepted}
+use Rattle.rules.proofs.Arrived.{arrived}
+use Rattle.rules.proofs.Shortest.{shortest}
+use Rattle.demands.specs.Machine.{Machine, checksOf}
+use Rattle.demands.specs.Demand1.{Demand1}
+use Rattle.demands.specs.Exactly.{Octets}
+use Rattle.demands.specs.Follows.{contextPart, OneForm}
+
+-- an octet of octets
+octet-small : (s : List ℕ) → Octets s → (i : ℕ) → octet s i < 256
+octet-small [] h i = omega arith
+octet-small (x ∷ s) h zero = h .0
+octet-small (x ∷ s) h (suc i) = octet-small s (h .1) i
+
+module _ (m : Machine) (d : Demand1 m) (st : State) (x : Arrival) (good : m .step st (Arrives x) .answer .refusal ≡ 0) where
+  all-accepted : accepted (checksOf st (Arrives x)) ≡ true
+  all-accepted = go (accepted (checksOf st (Arrives x))) refl
+    where
+      go : (b : Bool) → accepted (checksOf st (Arrives x)) ≡ b → b ≡ true
+      go true e = refl
+      go false e = absurd (d .every st (Arrives x) .refused e good)
+
+  reading-accepted : accepted (readingChecks (st .table .registry) (x .parameter)) ≡ true
+  reading-accepted =
+      let own = segment-accepted (st .table) (st .summary) (st .store) (x .report) (x .association) (x .parameter) all-accepted .0 .own in
+      arrived (st .table) (st .store) (x .report) (x .association) (x .parameter) own .reading
+
+  one : Octets (x .parameter) → contextPart (x .parameter) ≡ contextOctets (contextOf (x .parameter))
+  one o = shortest (st .table .registry) (x .parameter) reading-accepted (octet-small (x .parameter) o 0) (octet-small (x .parameter) o 1)
+
+pub one-form : (m : Machine) → Demand1 m → OneForm m
+one-form m d =
+    record {
+      shortest = λ st x o good. one m d st x good o;
+      equal = λ st st′ x x′ o o′ good good′ same. one m d st x good o ∙ ap contextOctets same ∙ sym (one m d st′ x′ good′ o′);
+    }
