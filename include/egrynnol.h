@@ -56,9 +56,9 @@
 /* ---- Versions ---- */
 
 #define EGRYNNOL_VERSION_MAJOR 2
-#define EGRYNNOL_VERSION_MINOR 0
+#define EGRYNNOL_VERSION_MINOR 1
 #define EGRYNNOL_VERSION_PATCH 0
-#define EGRYNNOL_VERSION_STRING "2.0.0"
+#define EGRYNNOL_VERSION_STRING "2.1.0"
 
 /* One number for #if: 1002003 is 1.2.3. */
 #define EGRYNNOL_VERSION \
@@ -191,7 +191,8 @@ enum egrynnol_refusal {
     EGRYNNOL_REFUSAL_NUMBER = 19,           /* segment number not below the count */
     EGRYNNOL_REFUSAL_AREA = 20,             /* lent area shorter than the segment */
     EGRYNNOL_REFUSAL_ROW = 21,              /* the association has no row, and no row is unused */
-    EGRYNNOL_REFUSAL_TOTAL = 22             /* a total would be over 2^63 */
+    EGRYNNOL_REFUSAL_TOTAL = 22,            /* a total would be over 2^63 */
+    EGRYNNOL_REFUSAL_PADDED = 23            /* context padded: octet 1a has a zero upper part */
 };
 
 /* ---- The table ----
@@ -356,8 +357,12 @@ egrynnol_opened egrynnol_opening(egrynnol_summary *summary,
  * The destination address is read and passed over. What the information means
  * is not looked at.
  *
- * Refusals, in this order: 1, 2, 3, 4; then 5 to 9 by the parameter's octets from
- * left to right; then 10, 21, 22.
+ * A context below 128 is in one octet: in two, its upper part zero, it is refused
+ * with 23, registered or not. So equal contexts have equal octets in all that is
+ * accepted.
+ *
+ * Refusals, in this order: 1, 2, 3, 4; then 5 to 9 and 23 by the parameter's octets
+ * from left to right (23 at octet 1a, after 6 and before 8); then 10, 21, 22.
  */
 egrynnol_received egrynnol_segment(egrynnol_table table, egrynnol_summary *summary,
                                    uint8_t *store, size_t store_length,
@@ -647,6 +652,7 @@ EGRYNNOL_INLINE const char *egrynnol_refusal_name(unsigned refusal)
     case EGRYNNOL_REFUSAL_AREA: return "area too short";
     case EGRYNNOL_REFUSAL_ROW: return "no row for the association";
     case EGRYNNOL_REFUSAL_TOTAL: return "total too large";
+    case EGRYNNOL_REFUSAL_PADDED: return "context padded";
     default: return "unknown";
     }
 }

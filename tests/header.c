@@ -41,13 +41,14 @@ static void names(const char *(*name)(unsigned), unsigned first, unsigned last)
 
 static void all_names(void)
 {
-    names(egrynnol_refusal_name, EGRYNNOL_GOOD, EGRYNNOL_REFUSAL_TOTAL);
+    names(egrynnol_refusal_name, EGRYNNOL_GOOD, EGRYNNOL_REFUSAL_PADDED);
     names(egrynnol_cause_name, 0, EGRYNNOL_CAUSE_RELEASE);
     names(egrynnol_decision_name, EGRYNNOL_REFUSED, EGRYNNOL_LOST);
     CHECK(strcmp(egrynnol_refusal_name(EGRYNNOL_REFUSAL_FULL), "no place free") == 0);
     CHECK(strcmp(egrynnol_refusal_name(EGRYNNOL_REFUSAL_TABLE), "table or summary not sound") == 0);
     CHECK(EGRYNNOL_REFUSAL_ROW == 21 && strcmp(egrynnol_refusal_name(21), "no row for the association") == 0);
     CHECK(EGRYNNOL_REFUSAL_TOTAL == 22 && strcmp(egrynnol_refusal_name(22), "total too large") == 0);
+    CHECK(EGRYNNOL_REFUSAL_PADDED == 23 && strcmp(egrynnol_refusal_name(23), "context padded") == 0);
     CHECK(strcmp(egrynnol_cause_name(EGRYNNOL_CAUSE_TIMER), "timer") == 0);
     CHECK(strcmp(egrynnol_decision_name(EGRYNNOL_DELIVERED_STORE), "delivered from the store") == 0);
 }

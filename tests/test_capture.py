@@ -72,6 +72,7 @@ TRACE = """\
 context 1998 3     # 4 parameters, taken as of 1998: it is 1 to 3
 context 2000 4     # 2 parameters, taken as of 2000: addresses can be read in all of them
 context 1998 10    # 1 parameter, taken as of 1998: addresses cannot be read in all of them
+# 1 parameter with a padded context, in two octets where one would do: refused by 23.
 # Circuit 9 has segments both ways, and both are one association here: take them apart by --filter.
 
 # T: a capture does not tell it; 15000 ticks are 15.000 s here, and Q.765 has 10 to 18 s.
@@ -114,7 +115,7 @@ class Recorded(unittest.TestCase):
         ran = run("replay", data=TRACE.encode())
         self.assertEqual(ran[::2], (0, ""))
         self.assertEqual(ran.out.split(b"\n")[0], b"open 0 0 0 0")
-        self.assertEqual([line.split()[:2] for line in ran.out.decode().splitlines() if line.split()[1] != "0"], [["segment", "5"]] * 2, "only the cut ones are refused")
+        self.assertEqual([line.split()[:2] for line in ran.out.decode().splitlines() if line.split()[1] != "0"], [["segment", "23"], ["segment", "5"]], "only the padded and the cut one are refused")
 
     def test_ticks_and_timer(self):
         lines = lines_from(recorded(), "1", 10)

@@ -637,6 +637,39 @@ class Totals(Folder):
         self.assertEqual(ran, (0, (self.HEAD + "18446744073709551,0,65535,9223372036854775808,9223372036854775808,1,2,3,4\n").encode(), ""))
 
 
+class Refusals(Folder):
+
+    def test_examples(self):
+        """By association and number, as the lines of replay have them."""
+        for name in examples():
+            counts = run("refusals", example(name))
+            lines = [line.split() for line in run("replay", example(name)).out.decode().splitlines()]
+            refused = [line[1] for line in lines if line[0] == "segment" and line[1] != "0"]
+            again = [number for _, number, segments in map(str.split, counts.out.decode().splitlines()) for _ in range(int(segments))]
+            self.assertEqual(sorted(again), sorted(refused), name)
+            self.assertEqual((counts.status, counts.err), (run("replay", example(name)).status, ""))
+
+    def test_one_number(self):
+        self.assertEqual(run("refusals", "--number", "23", example("padded")), (0, b"9 23 4\n10 23 1\n", ""))
+        self.assertEqual(run("refusals", "--number", "13", example("padded")), (0, b"", ""))
+        self.assertEqual(run("refusals", "--csv", "--number", "8", example("padded")), (0, b"association,refusal,segments\n9,8,1\n", ""))
+        for word in ("0", "256", "x", "-1", "\u0662"):
+            self.assertEqual(run("refusals", "--number=" + word, example("padded")).status, 64)
+
+    def test_traces_together(self):
+        self.assertEqual(run("refusals", "--number", "23", example("padded"), example("padded"), example("origins")), (0, b"9 23 8\n10 23 2\n", ""))
+
+    def test_bad_and_stopped(self):
+        """A text with a bad line counts for nothing; a trace that stops counts up to there; the worst status counts."""
+        bad = self.path("bad.trace", b"context 1998 3\nopen 100 0\nsegment 9 03 80\nsegments\n")
+        stopped = self.path("stopped.trace", b"context 1998 3\nopen 100 0\nsegment 9 03 80\ncontext 1998 4\nsegment 9 03 80\n")
+        self.assertEqual(run("refusals", stopped)[:2], (3, b"9 23 1\n"))
+        ran = run("refusals", bad, stopped)
+        self.assertEqual(ran[:2], (1, b"9 23 1\n"))
+        self.assertIn("bad.trace", ran.err)
+        self.assertEqual(run("refusals", self.path("none"))[:2], (2, b""))
+
+
 class Help(Folder):
 
     def test_help_of_each(self):
@@ -677,7 +710,7 @@ class Help(Folder):
 
     def test_completion(self):
         self.assertEqual(self.complete(TOOL, ""), set(SUBCOMMANDS) | {"--help", "--version"})
-        self.assertEqual(self.complete(TOOL, "re"), {"replay", "records"})
+        self.assertEqual(self.complete(TOOL, "re"), {"replay", "records", "refusals"})
         self.path("a.trace", b"")
         self.assertEqual(self.complete(TOOL, "replay", ""), {"a.trace"})
         self.assertEqual(self.complete(TOOL, "from-pcap", "--tick", ""), set())
@@ -693,7 +726,8 @@ class Help(Folder):
 class Sweep(Folder):
     """Random and damaged inputs over every subcommand: a status of the list, and never a traceback."""
 
-    WORDS = REPLAYING + (["encode"], ["decode"], ["replay", "--text"], ["records", "--csv", "--octets"], ["explain", "--text"], ["explain", "--octets"])
+    WORDS = REPLAYING + (["encode"], ["decode"], ["replay", "--text"], ["records", "--csv", "--octets"], ["explain", "--text"], ["explain", "--octets"],
+                         ["refusals"], ["refusals", "--csv", "--number", "5"])
 
     def some_input(self, chance):
         with open(example(chance.choice(examples())), "rb") as file:
@@ -718,12 +752,12 @@ class Sweep(Folder):
             self.assertIsNone(FAULTS.search(ran.err), (words, data, ran.err))
             self.assertEqual(ran.status == 1, ran.err != "" and "note: " not in ran.err, (words, data, ran))
             seen.add((words[0], ran.status))
-        for name in ("replay", "records", "totals", "explain"):
+        for name in ("replay", "records", "totals", "refusals", "explain"):
             self.assertTrue({(name, 0), (name, 1), (name, 3)} <= seen, seen)
 
     def test_no_traceback_on_any_words(self):
         chance = random.Random(SEED + 1)
-        words = SUBCOMMANDS + ["-o", "--csv", "--json", "--text", "--octets", "--help", "-h", "--version", "--", "-", "--tick", "--timer", "--filter", "", "\udcff", "x", "/", "0", "-1",
+        words = SUBCOMMANDS + ["-o", "--csv", "--json", "--text", "--octets", "--help", "-h", "--version", "--", "-", "--tick", "--timer", "--filter", "--number", "", "\udcff", "x", "/", "0", "-1",
                                "/dev/null", "--tick=1", "--text=1", "-ox", "\n", "a" * 5000]
         for _ in range(RUNS // 2):
             chosen = [chance.choice(SUBCOMMANDS)] * (chance.random() < 0.8) + [chance.choice(words) for _ in range(chance.randrange(5))]

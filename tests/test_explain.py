@@ -101,7 +101,9 @@ def segment(chance, association, heading, information):
 def some_segment(chance):
     """Of a few keys, so that sequences meet; begun, continued, ended, and sometimes bad."""
     context = chance.choice([3, 3, 4, 4, 5])
-    heading = [128 + context, 128 + chance.randrange(4)]
+    padded = chance.random() < 0.05
+    heading = [context, 128] if padded else [128 + context]
+    heading.append(128 + chance.randrange(4))
     new, remaining = chance.random() < 0.45, chance.choice([0, 0, 0, 1, 1, 1, 2, 2, 9, 10])
     if new and remaining == 0:
         heading.append(0xC0)
@@ -156,7 +158,7 @@ class Agrees(unittest.TestCase):
             self.assertEqual(lines_in_words(text), lines, octets.hex())
             self.assertEqual(status, 3 if lines[-1:] == ["stop"] else 0)
             met |= set(re.findall(r"refused \d+|cause \d|saved in place 15|dropped|held|stop,|    delivered", text))
-        wanted = {"refused %d" % number for number in (1, 5, 6, 7, 8, 9, 10, 11, 12, 13, 21)} | {"cause %d" % number for number in (1, 2, 3, 4, 6, 7)}
+        wanted = {"refused %d" % number for number in (1, 5, 6, 7, 8, 9, 10, 11, 12, 13, 21, 23)} | {"cause %d" % number for number in (1, 2, 3, 4, 6, 7)}
         wanted |= {"saved in place 15", "dropped", "held", "stop,", "    delivered"}
         self.assertEqual(wanted - met if RUNS >= 1000 else set(), set(), "not met")
 

@@ -79,10 +79,16 @@ class Cases(unittest.TestCase):
         for text, number in (("", 5), ("83", 5), ("8380", 5), ("838040", 5), ("848041", 5), ("8480418502AA", 5), ("05", 5),
                              ("8300", 6), ("0505", 6), ("83804005", 6),
                              ("83804085", 7), ("8380C1", 7), ("838080", 7), ("8480408515", 7), ("8480C1", 7),
-                             ("85", 8), ("0580", 8), ("80", 8), ("0080", 8),
+                             ("85", 8), ("0581", 8), ("80", 8), ("0081", 8),
+                             ("038080C0AA", 23), ("0580", 23), ("0080", 23), ("7F80", 23), ("0300", 6), ("03", 5),
                              ("8480418515", 9), ("848041850015", 9)):
             with self.subTest(text):
                 self.from_open(segment(text), "segment %d 0 0 0" % number)
+
+    def test_contexts_in_two_octets(self):
+        """128 is not padded, and is good where it is registered; the same octets with a zero upper part are 23 though context 0 never is."""
+        self.prints(context(128) + context(16383) + context(127) + opening() + segment("008180C0AA") + segment("7FFF80C0") + segment("FF80C0") + segment("7F8080C0") + segment("008080C0AA"),
+                    "open 0 0 0 0", "segment 0 1 1 0", "segment 0 1 0 0", "segment 0 1 0 0", "segment 23 0 0 0", "segment 23 0 0 0")
 
     def test_refusals_of_opening(self):
         good = context(3)

@@ -361,9 +361,10 @@ class Explained(unittest.TestCase):
             "originating address: 0 octets", "destination address: 0 octets", "information: 0 octets"])
         self.assertEqual(told("84 80 C0 00 01 07")[4:], [
             "originating address: 0 octets", "destination address: 1 octet: 07", "information: 0 octets"])
-        self.assertEqual(told("03 80 80 C0 AA"), [
-            "context 3, written in two octets: listed as of 1998, no address fields",
-            self.NONE, "new segment, 0 segments remaining", "unsegmented: no reference", "information: 1 octet"])
+        self.assertEqual(told("00 81 80 C0 AA"), [
+            "context 128: not listed so far in this trace",
+            self.NONE, "new segment, 0 segments remaining", "unsegmented: no reference",
+            "1 octet left: whether addresses are among them, the registry does not say"])
 
     def test_instruction(self):
         self.assertEqual(told("83 82 C0")[1], "instruction 2: send notification yes, release call no")
@@ -376,7 +377,9 @@ class Explained(unittest.TestCase):
         ("", 5), ("83 80 40 85", 7), ("83 80 C1", 7), ("83 00", 6), ("85", 8),
         # the literal cases
         ("83 80 40", 5), ("83 80 40 05", 6), ("84 80 40 85 15", 7), ("84 80 C1", 7), ("83 80 80", 7),
-        ("05", 5), ("05 05", 6), ("05 80", 8), ("80 80 C0", 8), ("00 80 80 C0", 8),
+        ("05", 5), ("05 05", 6), ("05 81", 8), ("80 80 C0", 8), ("00 81 80 C0", 8),
+        # M12, and padded contexts, registered or not
+        ("03 80 80 C0 AA", 23), ("03 00", 6), ("05 80", 23), ("00 80", 23), ("00 80 80 C0", 23), ("7F 80 80 C0", 23),
         # where the fields end, and long addresses
         ("83", 5), ("83 7F", 6), ("83 80", 5), ("84 80 C0", 5), ("84 80 C0 15", 9), ("84 80 C0 FF 01", 9),
         ("84 80 C0 02 01", 5), ("84 80 C0 14", 5), ("84 80 C0 00", 5), ("84 80 C0 00 15", 9),
@@ -398,6 +401,8 @@ class Explained(unittest.TestCase):
             ("83 80", "it ends where octet 3 should be"),
             ("83 80 41", "it ends where octet 3a should be"),
             ("05", "it ends where octet 1a should be"),
+            ("03 80 80 C0 AA", "octet 1a, octet 2 of it, has a zero upper part: context 3 is padded, and its shortest form is the one octet 83"),
+            ("00 80", "octet 1a, octet 2 of it, has a zero upper part: context 0 is padded, and its shortest form is the one octet 80"),
             ("05 05", "octet 1a, octet 2 of it, has extension 0 where it has to be 1"),
             ("83 00", "octet 2, octet 2 of it, has extension 0 where it has to be 1"),
             ("83 80 41 05", "octet 3a, octet 4 of it, has extension 0 where it has to be 1"),

@@ -8,7 +8,7 @@ _egrynnol()
         mapfile -t COMPREPLY < <(compgen -W "$words --help --version" -- "$word")
         return
     fi
-    case ${COMP_WORDS[COMP_CWORD-1]} in --tick | --timer | --filter) return ;; esac
+    case ${COMP_WORDS[COMP_CWORD-1]} in --tick | --timer | --filter | --number) return ;; esac
     if [[ $word == -* ]]; then
         # the usage, which is what stands before the first blank line
         words=$("$egrynnol" "${COMP_WORDS[1]}" --help 2>/dev/null | sed '/^$/q' | grep -o -e '\[--*[a-z]*' -e '| --[a-z]*' | sed 's/^\(\[\|| \)//; s/^-h$/--help/')

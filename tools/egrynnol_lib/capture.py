@@ -137,6 +137,11 @@ def context_of(octets):
     return octets[0] % 128 + (128 * (octets[1] % 128) if octets[0] < 128 else 0)
 
 
+def is_padded(octets):
+    """Whether the context is in two octets where one would do."""
+    return len(octets) > 1 and octets[0] < 128 and octets[1] == 128
+
+
 def addresses_fit(octets):
     """Whether what follows the fields of a parameter can be two addresses; True where the fields are bad anyway."""
     reading = Reading(octets)
@@ -193,6 +198,9 @@ class Writer:
             yield "%scontext %d %-5d # %s, %s" % (out, kind, context, count(met[context], "parameter"), why)
         if met[0]:
             yield "# %s of context 0, which cannot be registered." % count(met[0], "parameter")
+        padded = sum(1 for _, octets in self.segments if octets is not None and is_padded(octets))
+        if padded:
+            yield "# %s with a padded context, in two octets where one would do: refused by 23." % count(padded, "parameter")
 
     def kind_of(self, context):
         if context <= 3:

@@ -10,7 +10,7 @@ import shlex
 import signal
 
 from egrynnol_lib import VERSION, programs, streams, totals as of_totals
-from egrynnol_lib.rows import Beside, csv_head, csv_of, json_of
+from egrynnol_lib.rows import Beside, csv_head, csv_line, csv_of, json_of
 from egrynnol_lib.streams import Failed, NotWritten, Trace, fit, opened, output, report, trace
 from egrynnol_lib.traces import BLOCK, Bad, blocks_of, octets_of_record, parsed, records_of_text, text_of
 from egrynnol_lib.words import Teller
@@ -25,13 +25,13 @@ class Misused(Exception):
 
 # ---- the subcommands: each is given its options and its output, and answers a status ----
 
-def each_trace(options, out, work):
+def each_trace(options, out, work, headed=True):
     """Does the work on the trace of each file; one that is bad does not keep the others from theirs."""
     status = GOOD
     for path in options.files or ["-"]:
         try:
             with trace(path, options.kind) as it:
-                if len(options.files) > 1 and not getattr(options, "table", None):
+                if headed and len(options.files) > 1 and not getattr(options, "table", None):
                     out.write(("# %s\n" % it.name).encode("utf-8", "backslashreplace"))
                 now = work(it, out)
         except Bad as error:
@@ -102,6 +102,34 @@ def tabled(it, out):
             out.write("".join(map(of_totals.csv_of, batch)).encode("ascii"))
             out.flush()
     return STOPPED if rows.stopped else GOOD
+
+
+def refusals(options, out):
+    """All traces together."""
+    counts = collections.Counter()
+    status = each_trace(options, out, counted(counts), headed=False)
+    shown = [(*of, counts[of]) for of in sorted(counts) if options.number in (None, of[1])]
+    if options.table:
+        out.write(csv_line(("association", "refusal", "segments")).encode("ascii"))
+    for cells in shown:
+        out.write((csv_line(cells) if options.table else "%d %d %d\n" % cells).encode("ascii"))
+    return status
+
+
+def counted(counts):
+    """Work that counts refused segments by association and number; a trace that cannot be read to its end counts for nothing."""
+    def work(it, out):
+        own = collections.Counter()
+
+        def nothing_printed(row, item):
+            if row and row.name == "segment" and row.refusal:
+                own[item.record.numbers[0], row.refusal] += 1
+            return []
+
+        status = batch_by_batch(it, out, nothing_printed)
+        counts.update(own)
+        return status
+    return work
 
 
 def table_of(line_of):
@@ -244,6 +272,18 @@ association's line, with its opening before it. An opening that has no such line
 has no row.
 """
 
+REFUSALS = """\
+Counts the refused segments of all the traces together, by what the proved
+program records answers: a line for each association and refusal number that
+were met, association, number, segments. --number keeps one number. So
+
+  egrynnol refusals --number 23 OLD.trace ...
+
+tells how many segments of each association in old traces have a padded
+context, which this version refuses. A trace that cannot be read to its end
+counts for nothing, and one that stops counts up to there.
+"""
+
 EXPLAIN = """\
 Tells each trace in words, beside its line number (text) or offset (octets):
 what was refused and why, saved where, delivered, lost by which cause, dropped
@@ -291,6 +331,8 @@ COMMANDS = (
             ("kind", "table", "out", "files")),
     Command("totals", totals, "what each association had taken, delivered and lost, opening by opening; also as a table", TOTALS + "\n" + TELLING,
             ("kind", "csv", "out", "files")),
+    Command("refusals", refusals, "how many segments of each association are refused, by number; over all traces together", REFUSALS + "\n" + TELLING,
+            ("kind", "number", "together", "out", "files")),
     Command("explain", explain, "traces in words", EXPLAIN + "\n" + TELLING, ("kind", "out", "files")),
     Command("encode", encode, "a trace in text to octets", ENCODE + "\n" + TEXT, ("out", "file")),
     Command("decode", decode, "a trace in octets to text", DECODE, ("out", "file")),
@@ -343,6 +385,13 @@ def ticks(word):
     return value
 
 
+def refusal_number(word):
+    value = int(word) if word.isascii() and word.isdigit() and len(word) < 4 else 0
+    if not 1 <= value <= 255:
+        raise argparse.ArgumentTypeError("'%s' is not 1 to 255" % word)
+    return value
+
+
 def seconds(word):
     """A decimal, as it was typed."""
     good = re.match(r"[0-9]{1,4}(\.[0-9]{1,9})?\Z", word)
@@ -378,6 +427,8 @@ OPTIONS = {
     "kind": kind_option,
     "table": table_option,
     "csv": csv_option,
+    "together": lambda parser: parser.add_argument("--csv", dest="table", action="store_const", const="csv", help="a table as CSV, with a header row"),
+    "number": lambda parser: parser.add_argument("--number", type=refusal_number, metavar="N", help="of the refusals, only this number"),
     "capture": capture_option,
     "out": lambda parser: parser.add_argument("-o", dest="out", metavar="FILE", help="the output; standard output if not given"),
     "file": lambda parser: parser.add_argument("file", nargs="?", default="-", metavar="FILE", help="the input; standard input if none or '-'"),

@@ -18,6 +18,7 @@ REFUSALS = {
     13: "the clock's step is 2^31 or more, which is a step back",
     21: "no row for a new association: 64 have one",
     22: "a total would pass 2^63",
+    23: "the context is padded: octet 1a has a zero upper part, and one octet would do",
 }
 CAUSES = {
     1: "a later segment, and no sequence of its key is open",
@@ -63,9 +64,11 @@ class Reading:
     def context(self, registry):
         first = self.octet("octet 1")
         high = self.last_octet("octet 1a") if first < 128 else 0
+        if first < 128 and not high:
+            raise Ends("octet 1a, octet %d of it, has a zero upper part: context %d is padded, and its shortest form is the one octet %02X"
+                       % (self.at, first, first + 128))
         context = first % 128 + 128 * high
-        form = ", written in two octets" if first < 128 and not high else ""
-        self.lines.append("context %d%s: %s" % (context, form, registry.words(context)))
+        self.lines.append("context %d: %s" % (context, registry.words(context)))
         return registry.kinds(context)
 
     def instruction(self):

@@ -1,19 +1,19 @@
 -- Of what a machine that meets demand 1 accepts, a context has one form.
 use Prim.Native.Nat.{ℕ, zero, suc, _<_}
-use mathlib.Core.Path.{_≡_, refl, sym, ap, _∙_}
+use mathlib.Core.Path.{_≡_, refl}
 use mathlib.Core.Bool.{Bool, true, false}
 use mathlib.Core.List.{List, [], _∷_}
 use native.Mathlib.Omega.{arith}
 use Rattle.rules.specs.Refusals.{accepted}
-use Rattle.rules.specs.Layout.{octet, contextOf, contextOctets, readingChecks}
+use Rattle.rules.specs.Layout.{octet, readingChecks}
 use Rattle.rules.specs.Calls.{State, Arrives, Arrival}
 use Rattle.rules.proofs.Answers.{segment-accepted}
 use Rattle.rules.proofs.Arrived.{arrived}
-use Rattle.rules.proofs.Shortest.{shortest}
+use Rattle.rules.proofs.Shortest.{shortest, equal-octets}
 use Rattle.demands.specs.Machine.{Machine, checksOf}
 use Rattle.demands.specs.Demand1.{Demand1}
 use Rattle.demands.specs.Exactly.{Octets}
-use Rattle.demands.specs.Follows.{contextPart, OneForm}
+use Rattle.demands.specs.Follows.{OneForm}
 
 -- an octet of octets
 octet-small : (s : List ℕ) → Octets s → (i : ℕ) → octet s i < 256
@@ -34,12 +34,11 @@ module _ (m : Machine) (d : Demand1 m) (st : State) (x : Arrival) (good : m .ste
       let own = segment-accepted (st .table) (st .summary) (st .store) (x .report) (x .association) (x .parameter) all-accepted .0 .own in
       arrived (st .table) (st .store) (x .report) (x .association) (x .parameter) own .reading
 
-  one : Octets (x .parameter) → contextPart (x .parameter) ≡ contextOctets (contextOf (x .parameter))
-  one o = shortest (st .table .registry) (x .parameter) reading-accepted (octet-small (x .parameter) o 0) (octet-small (x .parameter) o 1)
-
 pub one-form : (m : Machine) → Demand1 m → OneForm m
 one-form m d =
     record {
-      shortest = λ st x o good. one m d st x good o;
-      equal = λ st st′ x x′ o o′ good good′ same. one m d st x good o ∙ ap contextOctets same ∙ sym (one m d st′ x′ good′ o′);
+      shortest = λ st x o good. shortest (st .table .registry) (x .parameter) (reading-accepted m d st x good) (octet-small _ o 0) (octet-small _ o 1);
+      equal = λ st st′ x x′ o o′ good good′ same.
+          equal-octets (st .table .registry) (st′ .table .registry) (x .parameter) (x′ .parameter) (reading-accepted m d st x good) (reading-accepted m d st′ x′ good′)
+          (octet-small _ o 0) (octet-small _ o 1) (octet-small _ o′ 0) (octet-small _ o′ 1) same;
     }

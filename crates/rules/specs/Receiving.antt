@@ -158,7 +158,7 @@ abbrev pub takingChecks : Line → List Place → List Check
 takingChecks line ps =
     10 when (isStart line && not (isAt (lowestFree ps))) ∷ []
 
--- Segment: 1, 2, 3, 4, then 5 to 9 by the octets, then 10
+-- Segment: 1, 2, 3, 4, then 5 to 9 and 23 by the octets, then 10
 unfoldable pub segmentChecks : Table → List ℕ → List ℕ → ℕ → List ℕ → List Check
 segmentChecks t store report association s =
     let f : Fields = fieldsOf (t .registry) s in

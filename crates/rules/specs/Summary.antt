@@ -169,7 +169,7 @@ pub record Counted (A : Type 0) : Type 0 where
 abbrev pub counting : {A : Type 0} → List ℕ → A → Counted A
 counting m a = record { call = a; summary = m }
 
--- SEGMENT: 1, 2, 3, 4, then 5 to 9, then 10, 21, 22
+-- SEGMENT: 1, 2, 3, 4, then 5 to 9 and 23, then 10, 21, 22
 unfoldable pub segmentSums : Table → List ℕ → List ℕ → List ℕ → ℕ → List ℕ → List ℕ
 segmentSums t m store report association s =
     billed (took m association (length (informationOf s (fieldsOf (t .registry) s)))) (receivedAt t store report association s .made)
