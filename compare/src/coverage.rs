@@ -6,6 +6,7 @@ use crate::cases::Case;
 use crate::input::{Answer, Input, CALLS};
 use crate::summaries::{self, RULES as SUMMARY_RULES};
 use crate::traces;
+use crate::trips::Made;
 use crate::unsound::RULES;
 use model::*;
 
@@ -15,7 +16,7 @@ const MOST_SHOWN: usize = RULES.len() + SUMMARY_RULES.len();
 /// The refusals of each call, in its order.
 const ORDERS: [&[u8]; 6] = [
     &[12, 11],
-    &[1, 2, 3, 4, 5, 6, 7, 8, 9, 10, 21, 22],
+    &[1, 2, 3, 4, 5, 6, 23, 7, 8, 9, 10, 21, 22],
     &[1, 3, 13, 22],
     &[1, 3, 22],
     &[],
@@ -24,7 +25,7 @@ const ORDERS: [&[u8]; 6] = [
 
 /// Pairs of refusals that cannot hold at once: a parameter over 255 has room for all its fields,
 /// an association that has no row has no total, and a context that is not registered is not one
-/// of 1998.
+/// of 1998. A padded context can come with any of the others.
 const APART: [(usize, u8, u8); 3] = [(1, 4, 5), (1, 21, 22), (5, 8, 15)];
 
 /// What a call does to a summary.
@@ -36,6 +37,19 @@ const ROWS_MET: [&str; 6] = [
     "total past 2^63 stays beside one that grows",
     "losses refused only together",
 ];
+
+/// The forms of a context, and what becomes of them.
+const FORMS: [&str; 6] = [
+    "accepted in one octet",
+    "accepted in two",
+    "23, registered",
+    "23, not registered",
+    "23, context 0",
+    "6 at octet 1a with a zero upper part",
+];
+
+/// The refusals that the headers from end to end lead to.
+const OF_HEADERS: [u8; 7] = [0, 5, 6, 7, 8, 9, 23];
 
 const LINES: [&str; 10] = [
     "unsegmented",
@@ -51,10 +65,13 @@ const LINES: [&str; 10] = [
 ];
 
 /// The refusals that a trace can lead to: its areas and parameters are never too short or long.
-const IN_TRACES: [u8; 12] = [0, 1, 5, 6, 7, 8, 9, 10, 11, 12, 13, 21];
+const IN_TRACES: [u8; 13] = [0, 1, 5, 6, 7, 8, 9, 10, 11, 12, 13, 21, 23];
 
 /// What the records program tells under the lines of the events, and after them.
 const UNDER: [&str; 4] = ["delivered", "lost", "dropped", "held"];
+
+/// By who cuts; and the segments on the way that were first tried with their contexts padded.
+const TRIPS: [&str; 3] = ["cut by the model", "cut by the library", "segments turned away padded"];
 
 /// The used rows that an opening comes to.
 const OPENINGS: [&str; 4] = ["refused", "none", "1 to 63", "64"];
@@ -118,6 +135,7 @@ pub struct Coverage {
     causes: Tally,
     rules: Tally,
     rows: Tally,
+    forms: Tally,
     parts: Tally,
     counts: Tally,
     lengths: Tally,
@@ -127,7 +145,8 @@ pub struct Coverage {
     trace_openings: Tally,
     trips: Tally,
     trip_counts: Tally,
-    pub exhaustive: u64,
+    headers: Tally,
+    exhaustive: u64,
 }
 
 fn refusals(call: usize) -> Tally {
@@ -161,6 +180,7 @@ impl Coverage {
             causes: Tally::new("causes", 1..=7),
             rules: Tally::new("unsound tables and summaries", RULES.iter().chain(&SUMMARY_RULES)),
             rows: Tally::new("rows of summaries", ROWS_MET),
+            forms: Tally::new("contexts by their octets", FORMS),
             parts: Tally::new("deliveries", ["empty", "of the parameter", "of the store"]),
             counts: Tally::new("sent, by count of segments", 1..=SEGMENTS),
             lengths: Tally::seldom("lengths of parameters", (0..=256).chain([257, 300])),
@@ -168,8 +188,9 @@ impl Coverage {
             trace_ends: Tally::seldom("traces", ["to the end", "stopped"]),
             trace_records: Tally::seldom("lines under events, by name", UNDER),
             trace_openings: Tally::seldom("openings, by their used rows", OPENINGS),
-            trips: Tally::new("round trips", ["cut by the model", "cut by the library"]),
+            trips: Tally::new("round trips", TRIPS),
             trip_counts: Tally::new("round trips, by count of segments", 1..=SEGMENTS),
+            headers: Tally::new("headers from end to end, by refusal", OF_HEADERS),
             exhaustive: 0,
         }
     }
@@ -181,11 +202,13 @@ impl Coverage {
             &self.parts,
             &self.rules,
             &self.rows,
+            &self.forms,
             &self.counts,
             &self.lengths,
         ];
         let calls = std::iter::once(&self.calls).chain(&self.refusals).chain(&self.pairs);
-        calls.chain(rest).chain([&self.trips, &self.trip_counts])
+        let headers = Some(&self.headers).filter(|_| self.exhaustive > 0);
+        calls.chain(rest).chain([&self.trips, &self.trip_counts]).chain(headers)
     }
 
     fn of_traces(&self) -> impl Iterator<Item = &Tally> {
@@ -243,8 +266,9 @@ impl Coverage {
         if let Some(before) = case.input.summary().filter(|_| call > 0 && answer.refusal() == 0) {
             self.rows(before, summary);
         }
-        if let Input::Segment { parameter, .. } = &case.input {
+        if let Input::Segment { table, parameter, .. } = &case.input {
             self.lengths.add(parameter.len().min(258), 1);
+            self.form(table, parameter, answer.refusal());
         }
         match answer {
             Answer::Received(received, part) if received.refusal == 0 => {
@@ -281,6 +305,24 @@ impl Coverage {
             ];
             met.iter().enumerate().for_each(|(at, met)| self.rows.add(at, (*met).into()));
         }
+    }
+
+    /// Which form the context has, and what became of it.
+    fn form(&mut self, table: &Table, parameter: &[u8], refusal: u8) {
+        let registered = |context: u8| {
+            let context = u16::from(context);
+            table.registry.iter().any(|entry| entry.kind != 0 && entry.context == context)
+        };
+        let index = match (refusal, parameter) {
+            (0, [0x80..=0xff, ..]) => 0,
+            (0, _) => 1,
+            (23, [0, ..]) => 4,
+            (23, [low, ..]) if registered(*low) => 2,
+            (23, _) => 3,
+            (6, [..=0x7f, 0, ..]) => 5,
+            _ => return,
+        };
+        self.forms.add(index, 1);
     }
 
     fn part(&mut self, part: Part) {
@@ -333,8 +375,17 @@ impl Coverage {
         self.trace_ends.add(usize::from(text.ends_with("stop\n")), 1);
     }
 
-    pub fn count_trip(&mut self, direction: usize, counts: &[usize]) {
+    pub fn count_trip(&mut self, direction: usize, made: &Made) {
         self.trips.add(direction, 1);
-        counts.iter().for_each(|count| self.trip_counts.add(count - 1, 1));
+        self.trips.add(2, made.turned_away);
+        made.counts.iter().for_each(|count| self.trip_counts.add(count - 1, 1));
+    }
+
+    /// All the calls from end to end, and the headers among them by their refusals.
+    pub fn count_exhaustive(&mut self, calls: u64, refusals: &[u64]) {
+        self.exhaustive = calls;
+        for (index, refusal) in OF_HEADERS.iter().enumerate() {
+            self.headers.add(index, refusals[usize::from(*refusal)]);
+        }
     }
 }

@@ -1,15 +1,17 @@
 //! Short ranges gone through from end to end, where chance might miss one value.
 
 use crate::billed;
+use crate::contexts;
 use crate::input::Input;
 use crate::pair::Pair;
 use crate::random::Random;
 use model::*;
 
-/// Contexts 3 of 1998 and 4 of 2000, and one open sequence of each.
+/// Contexts 3 of 1998, 4 of 2000 and 128 of 1998, and one open sequence of each.
 fn table() -> Table {
     let mut table = Table { timer: 100, clock: 5, ..Table::default() };
     table.registry[0] = Entry { context: 3, kind: 1 };
+    table.registry[2] = Entry { context: 128, kind: 1 };
     table.registry[5] = Entry { context: 4, kind: 2 };
     let place = Place {
         key: Key { association: 9, context: 3, reference: 5, ..Key::default() },
@@ -22,6 +24,8 @@ fn table() -> Table {
     };
     table.places[2] = place;
     table.places[7] = place;
+    table.places[11] = place;
+    table.places[11].key.context = 128;
     let key = &mut table.places[7].key;
     (key.context, key.length, key.address[1]) = (4, 2, 7);
     table
@@ -48,15 +52,23 @@ fn crowded(count: usize) -> Box<Summary> {
 }
 
 pub struct Exhaustive<'p, 'a> {
-    pub pair: &'p mut Pair<'a>,
-    pub random: &'p mut Random,
+    pair: &'p mut Pair<'a>,
+    random: &'p mut Random,
     pub calls: u64,
+    /// How often a header was refused by each number.
+    pub refusals: [u64; 256],
 }
 
-impl Exhaustive<'_, '_> {
+impl<'p, 'a> Exhaustive<'p, 'a> {
+    pub fn new(pair: &'p mut Pair<'a>, random: &'p mut Random) -> Self {
+        Exhaustive { pair, random, calls: 0, refusals: [0; 256] }
+    }
+
     pub fn go(&mut self) -> Result<(), String> {
         self.headers(&[0x83, 0x80, 0x03, 0x85, 0xAA, 0xBB])?;
         self.headers(&[0x84, 0x80, 0x03, 0x85, 0x02, 0x00, 0x07, 0x01, 0x07, 0xAA])?;
+        self.headers(&[0x00, 0x81, 0x80, 0x03, 0x85, 0xAA, 0xBB])?;
+        self.contexts()?;
         self.counts()?;
         self.fields()?;
         self.rooms()?;
@@ -64,11 +76,14 @@ impl Exhaustive<'_, '_> {
         self.rows()
     }
 
-    fn run(&mut self, input: Input) -> Result<(), String> {
+    /// The refusal.
+    fn run(&mut self, input: Input) -> Result<u8, String> {
         self.calls += 1;
         let answer = self.pair.run(&input, self.random)?;
-        match billed::wrong(&input, &answer, self.pair.summary(), self.pair.report()) {
-            None => Ok(()),
+        let wrong = billed::wrong(&input, &answer, self.pair.summary(), self.pair.report())
+            .or_else(|| contexts::wrong(&input, &answer, self.pair.report()));
+        match wrong {
+            None => Ok(answer.refusal()),
             Some(wrong) => Err(format!("{input}{wrong}")),
         }
     }
@@ -79,23 +94,41 @@ impl Exhaustive<'_, '_> {
         summary: Box<Summary>,
         association: u16,
         parameter: Vec<u8>,
-    ) -> Result<(), String> {
+    ) -> Result<u8, String> {
         let (store, report) = (STORE, RECORD);
         self.run(Input::Segment { table, summary, store, report, association, parameter })
     }
 
-    fn release(&mut self, table: Table, summary: Box<Summary>) -> Result<(), String> {
+    fn release(&mut self, table: Table, summary: Box<Summary>) -> Result<u8, String> {
         self.run(Input::Release { table, summary, report: SWEEP, association: 9 })
     }
 
     /// Every value of every two neighbouring octets of a good header.
     fn headers(&mut self, good: &[u8]) -> Result<(), String> {
+        (0..good.len().min(6) - 1).try_for_each(|at| self.neighbours(good, at))
+    }
+
+    fn neighbours(&mut self, good: &[u8], at: usize) -> Result<(), String> {
         let table = table();
-        for at in 0..good.len().min(6) - 1 {
-            for value in 0..=u16::MAX {
-                let mut parameter = good.to_vec();
-                parameter[at..at + 2].copy_from_slice(&value.to_be_bytes());
-                self.segment(table, summary(), 9, parameter)?;
+        for value in 0..=u16::MAX {
+            let mut parameter = good.to_vec();
+            parameter[at..at + 2].copy_from_slice(&value.to_be_bytes());
+            let refusal = self.segment(table, summary(), 9, parameter)?;
+            self.refusals[usize::from(refusal)] += 1;
+        }
+        Ok(())
+    }
+
+    /// Every context, registered, in two octets; in one too, where it has room there.
+    fn contexts(&mut self) -> Result<(), String> {
+        let opened = Table { timer: 100, ..Table::default() };
+        for context in CONTEXTS {
+            let mut table = opened;
+            table.registry[4] = Entry { context, kind: 1 };
+            let (low, high) = (context as u8 & 0x7f, (context >> 7) as u8);
+            self.segment(table, summary(), 9, vec![low, 0x80 | high, 0x80, 0xC0, 0xAA])?;
+            if high == 0 {
+                self.segment(table, summary(), 9, vec![0x80 | low, 0x80, 0xC0, 0xAA])?;
             }
         }
         Ok(())

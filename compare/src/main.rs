@@ -3,6 +3,7 @@
 mod arguments;
 mod billed;
 mod cases;
+mod contexts;
 mod coverage;
 mod exhaustive;
 mod input;

@@ -3,6 +3,7 @@
 use crate::arguments::Arguments;
 use crate::billed;
 use crate::cases::World;
+use crate::contexts;
 use crate::coverage::Coverage;
 use crate::exhaustive::Exhaustive;
 #[cfg(feature = "library")]
@@ -77,9 +78,9 @@ impl<'a> Run<'a> {
             }
         }
         if !only_traces && calls >= LONG {
-            let mut exhaustive = Exhaustive { pair: &mut pair, random: &mut noise, calls: 0 };
+            let mut exhaustive = Exhaustive::new(&mut pair, &mut noise);
             let done = exhaustive.go();
-            self.coverage.exhaustive = exhaustive.calls;
+            self.coverage.count_exhaustive(exhaustive.calls, &exhaustive.refusals);
             done.map_err(|text| self.found("call from end to end", exhaustive.calls - 1, text))?;
         }
         Ok(())
@@ -113,7 +114,9 @@ impl<'a> Run<'a> {
             let (held, number) = (&case.held, answer.refusal());
             return Err(format!("{}made for {held:?}, but both answer {number}\n", case.input));
         }
-        if let Some(wrong) = billed::wrong(&case.input, &answer, pair.summary(), pair.report()) {
+        let wrong = billed::wrong(&case.input, &answer, pair.summary(), pair.report())
+            .or_else(|| contexts::wrong(&case.input, &answer, pair.report()));
+        if let Some(wrong) = wrong {
             return Err(format!("{}{wrong}", case.input));
         }
         self.coverage.count(&case, &answer, pair.summary());
@@ -127,8 +130,8 @@ impl<'a> Run<'a> {
         let direction = (number % 2) as usize;
         let (sender, receiver) = if direction == 0 { (model, other) } else { (other, model) };
         let length = number as usize / 2 % (STRETCH + 1);
-        let counts = Ends { sender, receiver }.go(random, length)?;
-        self.coverage.count_trip(direction, &counts);
+        let made = Ends { sender, receiver }.go(random, length)?;
+        self.coverage.count_trip(direction, &made);
         Ok(())
     }
 
@@ -145,9 +148,10 @@ mod tests {
     use super::*;
     use model::Fault;
 
-    /// A plain model on the other side, so that nothing is compared with the library here.
+    /// A plain model on the other side, so that nothing is compared with the library here. One
+    /// trace in twelve has a registry record after its first open: so many calls have some.
     fn arguments() -> Arguments {
-        let words = ["--against", "model", "--calls", "20000", "--seed", "7"];
+        let words = ["--against", "model", "--calls", "90000", "--seed", "7"];
         Arguments::read(words.map(String::from).into_iter()).expect("a good command line")
     }
 
@@ -159,13 +163,14 @@ mod tests {
         }
     }
 
-    /// What A1 asks of the rows is asked of both sides, so that a break they share is found too.
+    /// What A1 asks of the rows and A2 of the contexts is asked of both sides, so that a break they
+    /// share is found too.
     #[test]
-    fn shared_breaks_of_the_totals_are_found() {
+    fn shared_breaks_of_the_requests_are_found() {
         let mut arguments = arguments();
         arguments.only_calls = true;
         let first = Fault::ALL.iter().position(|fault| *fault == Fault::RefusedCounted);
-        let last = Fault::ALL.iter().position(|fault| *fault == Fault::PlacesUnchecked);
+        let last = Fault::ALL.iter().position(|fault| *fault == Fault::PaddedLater);
         for fault in &Fault::ALL[first.unwrap_or(0)..=last.unwrap_or(0)] {
             let other: &'static Model = Box::leak(Box::new(Model::with(*fault)));
             let mut run = Run { other, ..Run::new(&arguments, *other) };

@@ -14,13 +14,13 @@ fn kind(table: &Table, context: u16) -> u8 {
     table.registry.iter().find(|entry| entry.context == context).map_or(0, |entry| entry.kind)
 }
 
-/// A wire with the fields of a key; the destination and what is ignored are any.
+/// A wire with the fields of a key; the destination and what is ignored are any. It is good, so
+/// that its context is not padded.
 fn wire(random: &mut Random, table: &Table, key: &Key) -> Wire {
     let origin = key.address[..usize::from(key.length).min(ADDRESS)].to_vec();
     let addresses = (kind(table, key.context) == 2).then(|| [origin, tables::address(random)]);
     Wire {
         context: key.context,
-        long: random.one_in(6),
         spare: if random.one_in(4) { random.below(32) as u8 } else { 0 },
         instruction: random.below(4) as u8,
         reference: Some(key.reference),
@@ -122,4 +122,20 @@ pub fn scene(random: &mut Random, table: &Table) -> Scene {
     });
     scene.wire.fit();
     scene
+}
+
+#[cfg(test)]
+mod tests {
+    use super::*;
+
+    /// What is refused is made so by `damage_wire`, and is known to be.
+    #[test]
+    fn no_scene_is_padded() {
+        let random = &mut Random::new(2);
+        for _ in 0..2_000 {
+            let table = tables::sound(random);
+            let wire = scene(random, &table).wire;
+            assert!(!wire.padded && wire.two_octets() == (wire.context > 127));
+        }
+    }
 }

@@ -11,6 +11,7 @@ use crate::input::hex;
 use crate::random::Random;
 use crate::scene;
 use crate::tables;
+use crate::wire::Wire;
 use model::*;
 
 /// The programs' names, and what each prints.
@@ -118,16 +119,7 @@ impl Scribe<'_> {
             scene.association = *many;
             (scene.wire.new, scene.wire.remaining, scene.wire.reference) = (true, 0, None);
         }
-        if self.random.one_in(15) {
-            let refusal = self.random.within(6..=9) as u8;
-            damage_wire(self.random, &self.table, &mut scene.wire, &[refusal]);
-            scene.wire.fit();
-        }
-        let mut parameter = scene.wire.octets();
-        if self.random.one_in(20) {
-            let length = self.random.within(0..=255);
-            parameter = self.random.octets(length);
-        }
+        let parameter = self.parameter(&mut scene.wire);
         self.trace.push(33);
         self.trace.extend(scene.association.to_be_bytes());
         self.trace.push(parameter.len() as u8);
@@ -138,6 +130,27 @@ impl Scribe<'_> {
         let association = scene.association;
         *table =
             Model::PLAIN.segment(*table, summary, store, report, association, &parameter).table;
+    }
+
+    /// Mostly good, as the wire is; else damaged, and now and then any octets.
+    fn parameter(&mut self, wire: &mut Wire) -> Vec<u8> {
+        if self.random.one_in(20) {
+            let length = self.random.within(0..=255);
+            return self.random.octets(length);
+        }
+        if !self.random.one_in(10) {
+            return wire.octets();
+        }
+        // Often two at once, so that their order is seen.
+        let refusals = [(); 2].map(|()| self.random.pick(&[5, 6, 7, 8, 9, 23]));
+        let held = &refusals[..self.random.within(1..=2)];
+        damage_wire(self.random, &self.table, wire, held);
+        wire.fit();
+        let mut parameter = wire.octets();
+        if held.contains(&5) {
+            parameter.truncate(self.random.below(wire.header().len()));
+        }
+        parameter
     }
 
     fn clock(&mut self) {

@@ -20,14 +20,22 @@ struct Trip {
     count: usize,
 }
 
+/// What came of some sequences at once.
+pub struct Made {
+    /// The segments of each.
+    pub counts: Vec<usize>,
+    /// Segments that were first tried in the padded form.
+    pub turned_away: u64,
+}
+
 pub struct Ends<'a> {
     pub sender: &'a dyn Side,
     pub receiver: &'a dyn Side,
 }
 
 impl Ends<'_> {
-    /// Some sequences at once, one of them of `n` octets; the counts of their segments.
-    pub fn go(&self, random: &mut Random, n: usize) -> Result<Vec<usize>, String> {
+    /// Some sequences at once, one of them of `n` octets.
+    pub fn go(&self, random: &mut Random, n: usize) -> Result<Made, String> {
         let (count, open) = (random.within(1..=8), random.within(0..=13));
         let mut table = tables::sound_with(random, count, open);
         let mut summary = summaries::roomy(random, &table);
@@ -39,20 +47,23 @@ impl Ends<'_> {
             trip.bill(&mut expected);
             trips.push(trip);
         }
-        let mut counts = Vec::new();
+        let mut made = Made { counts: Vec::new(), turned_away: 0 };
         let mut store = random.octets(STORE);
         while !trips.is_empty() {
             let at = random.below(trips.len());
+            if random.one_in(4) {
+                made.turned_away += self.turn_away(table, summary, &store, &trips[at])?;
+            }
             if let Some(data) = self.join(&mut table, &mut summary, &mut store, &mut trips[at])? {
                 let trip = trips.swap_remove(at);
                 if data != trip.data {
                     return Err(trip.failed("the data joined is another", &table));
                 }
-                counts.push(trip.count);
+                made.counts.push(trip.count);
             }
         }
         match rows(&summary) == rows(&expected) {
-            true => Ok(counts),
+            true => Ok(made),
             false => Err(format!(
                 "round trip: all was delivered, but the {}expected is the {}",
                 summaries::text(&summary),
@@ -113,6 +124,39 @@ impl Ends<'_> {
             return Err(trip.failed("a segment has no room", table));
         }
         Ok(area[..sent.length.into()].to_vec())
+    }
+
+    /// Gives the trip's next segment to the receiver with its context padded, as a switch does on
+    /// some links: it is refused, and nothing comes of it. 1, or 0 where it cannot be padded.
+    fn turn_away(
+        &self,
+        table: Table,
+        summary: Summary,
+        store: &[u8],
+        trip: &Trip,
+    ) -> Result<u64, String> {
+        let Some(segment) = trip.segments.last().and_then(|segment| padded(segment)) else {
+            return Ok(0);
+        };
+        let (mut totals, mut saved, mut report) = (summary, store.to_vec(), [0; RECORD]);
+        let got = self.receiver.segment(
+            table,
+            &mut totals,
+            &mut saved,
+            &mut report,
+            trip.association,
+            &segment,
+        );
+        let refused = Received { table, refusal: 23, ..Received::default() };
+        let nothing = (totals, &saved[..], report) == (summary, store, [0; RECORD]);
+        match got == refused && nothing {
+            true => Ok(1),
+            false => {
+                let Received { refusal, decision, .. } = got;
+                let why = format!("padded, {} gives {refusal}, {decision:?}", hex(&segment));
+                Err(trip.failed(&why, &table))
+            }
+        }
     }
 
     /// Gives the trip's next segment to the receiver; the data when that was the last.
@@ -208,6 +252,13 @@ fn header(context: u16, entry: Option<&Entry>, addresses: &[Vec<u8>; 2]) -> usiz
     let fields =
         if entry.is_some_and(|entry| entry.kind == 2) { 2 + addresses.concat().len() } else { 0 };
     fields + 2 + if context > 127 { 2 } else { 1 }
+}
+
+/// A segment with its context in two octets, if one does and there is room for another.
+fn padded(segment: &[u8]) -> Option<Vec<u8>> {
+    let (first, rest) = segment.split_first()?;
+    let possible = *first >= 0x80 && segment.len() < PARAMETER;
+    possible.then(|| [&[first & 0x7f, 0x80], rest].concat())
 }
 
 fn other_length(random: &mut Random) -> usize {

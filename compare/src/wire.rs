@@ -11,8 +11,9 @@ pub enum Field {
 #[derive(Clone, Debug, Default)]
 pub struct Wire {
     pub context: u16,
-    /// The context in two octets though one would do.
-    pub long: bool,
+    /// The context in two octets though one would do, which is refused by 23. One over 127 is in
+    /// two octets anyway, and is not padded by this.
+    pub padded: bool,
     pub spare: u8,
     pub instruction: u8,
     pub new: bool,
@@ -29,12 +30,17 @@ pub struct Wire {
 }
 
 impl Wire {
+    /// Whether octet 1a is there.
+    pub fn two_octets(&self) -> bool {
+        self.padded || self.context > 127
+    }
+
     /// The octets before the information.
     pub fn header(&self) -> Vec<u8> {
         let closed = |field: Field| if self.open == Some(field) { 0 } else { 0x80 };
         let (low, high) = ((self.context & 0x7f) as u8, (self.context >> 7) as u8 & 0x7f);
         let mut octets = Vec::with_capacity(64);
-        if self.long || high != 0 {
+        if self.two_octets() {
             octets.extend([low, closed(Field::Octet1a) | high]);
         } else {
             octets.push(0x80 | low);
@@ -77,9 +83,13 @@ mod tests {
         let first = Wire { context: 3, instruction: 1, new: true, remaining: 1, ..Wire::default() };
         let m3 = Wire { reference: Some(5), information: vec![0xAA], ..first.clone() };
         assert_eq!(m3.octets(), [0x83, 0x81, 0x41, 0x85, 0xAA]);
-        let alone = Wire { context: 3, long: true, new: true, ..Wire::default() };
-        let m12 = Wire { information: vec![0xAA], ..alone };
+        let alone = Wire { context: 3, padded: true, new: true, ..Wire::default() };
+        let m12 = Wire { information: vec![0xAA], ..alone.clone() };
         assert_eq!(m12.octets(), [0x03, 0x80, 0x80, 0xC0, 0xAA]);
+        for padded in [false, true] {
+            let long = Wire { context: 128, padded, ..alone.clone() };
+            assert_eq!(long.octets(), [0x00, 0x81, 0x80, 0xC0]);
+        }
         let addresses = Some([vec![0, 7], vec![]]);
         let m11 = Wire { context: 4, instruction: 0, addresses, ..m3 };
         assert_eq!(m11.octets(), [0x84, 0x80, 0x41, 0x85, 2, 0, 7, 0, 0xAA]);

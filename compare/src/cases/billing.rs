@@ -17,7 +17,7 @@ pub fn segment(
     wire: &Wire,
 ) -> bool {
     let edge = held.is_empty() && random.one_in(12);
-    if !edge && !held.iter().any(|number| *number > 20) {
+    if !edge && !held.iter().any(|number| matches!(number, 21 | 22)) {
         return false;
     }
     if held.contains(&21) {
@@ -36,7 +36,7 @@ pub fn segment(
             summaries::limit(random, &mut state.summary, row, &gain, over);
         }
         None if possible && held.contains(&21) => {}
-        _ => held.retain(|number| *number < 21),
+        _ => held.retain(|number| !matches!(number, 21 | 22)),
     }
     edge
 }

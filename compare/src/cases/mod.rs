@@ -15,7 +15,7 @@ pub use receiving::damage_wire;
 
 pub struct Case {
     pub input: Input,
-    /// Refusals whose conditions were made to hold, in the order of document 01.
+    /// Refusals whose conditions were made to hold, in the order of the documents.
     pub held: Vec<u8>,
     /// The rule of soundness that was broken: the table's, then the summary's.
     pub rule: Option<usize>,
@@ -38,12 +38,12 @@ impl Case {
     }
 
     /// Whether the answer is one of those the case was made for. The octets of a parameter decide
-    /// which of 5 to 9 comes first.
+    /// which of 5 to 9 and 23 comes first; where 23 is among them, `contexts` knows which it is.
     pub fn expects(&self, refusal: u8) -> bool {
         match self.held.first() {
             None => !self.edge || refusal != 22,
-            Some(5..=9) if self.input.call() == 1 => {
-                (5..=9).contains(&refusal) && self.held.contains(&refusal)
+            Some(5..=9 | 23) if self.input.call() == 1 => {
+                matches!(refusal, 5..=9 | 23) && self.held.contains(&refusal)
             }
             Some(first) => *first == refusal,
         }

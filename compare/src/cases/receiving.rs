@@ -10,7 +10,7 @@ use model::*;
 
 impl World {
     pub(super) fn segment(&mut self) -> Case {
-        let mut held = choose(&mut self.random, &[1, 2, 3, 4, 5, 6, 7, 8, 9, 10, 21, 22]);
+        let mut held = choose(&mut self.random, &[1, 2, 3, 4, 5, 6, 23, 7, 8, 9, 10, 21, 22]);
         if held.contains(&4) {
             // A parameter over 255 cannot end inside its fields.
             held.retain(|number| *number != 5);
@@ -59,25 +59,32 @@ fn rooms(random: &mut Random, held: &[u8]) -> (usize, usize) {
 
 /// A scene on which what has to hold can hold; what cannot is taken off the list.
 fn fitting(random: &mut Random, table: &Table, held: &mut Vec<u8>) -> Scene {
+    let fits = |wire: &Wire| {
+        // Where 8 has to hold, the context will be another.
+        let short = held.contains(&8) || wire.context <= 127;
+        (!held.contains(&9) || wire.addresses.is_some()) && (!held.contains(&23) || short)
+    };
     for _ in 0..12 {
         let scene = match held.contains(&10) {
             true => scene::begin(random, table),
             false => Some(scene::scene(random, table)),
         };
         match scene {
-            Some(scene) if !held.contains(&9) || scene.wire.addresses.is_some() => return scene,
+            Some(scene) if fits(&scene.wire) => return scene,
             _ => {}
         }
     }
-    held.retain(|number| !matches!(number, 9 | 10));
+    held.retain(|number| !matches!(number, 9 | 10 | 23));
     scene::scene(random, table)
 }
 
-/// Refusals 6 to 9.
+/// Refusals 6 to 9 and 23. A context over 127 stays as it is where only 23 is asked for.
 pub fn damage_wire(random: &mut Random, table: &Table, wire: &mut Wire, held: &[u8]) {
+    wire.padded = held.contains(&23);
     if held.contains(&8) {
+        let most = if wire.padded { 127 } else { *CONTEXTS.end() };
         let contexts = std::iter::repeat_with(|| tables::unregistered(random, table));
-        wire.context = contexts.take(100).find(|context| *context < 1 << 14).unwrap_or(0);
+        wire.context = contexts.take(100).find(|context| *context <= most).unwrap_or(0);
     }
     if held.contains(&7) {
         let reference = tables::reference(random);
@@ -89,7 +96,7 @@ pub fn damage_wire(random: &mut Random, table: &Table, wire: &mut Wire, held: &[
     }
     if held.contains(&6) {
         let mut fields = vec![Field::Octet2];
-        if wire.long || wire.context > 127 {
+        if wire.two_octets() {
             fields.push(Field::Octet1a);
         }
         if wire.reference.is_some() {

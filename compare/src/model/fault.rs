@@ -77,6 +77,15 @@ faults! {
     UnusedUnchecked "unused-rows-unchecked" "the totals of an unused row are not looked at"
     TwiceUnchecked "rows-twice-unchecked" "an association may have two rows"
     PlacesUnchecked "rows-of-places-unchecked" "an open place's association needs no row"
+    // Of A2's padded contexts.
+    PaddedTaken "padded-taken" "a padded context is taken as before"
+    PaddedLate "23-after-8" "23 is found after 8"
+    PaddedEarly "23-before-6" "23 is found before octet 1a's extension is looked at"
+    PaddedByLow "padded-by-low-part" "23 looks at the lower part of the context"
+    TwoOctetsRefused "two-octets-refused" "23 refuses any context in two octets"
+    Padded128 "128-padded" "a context of 128 counts as padded"
+    PaddedLater "padded-later-taken" "a padded context is taken in a subsequent segment"
+    // Of the programs.
     RegistryAfterOpen "registry-after-open" "replay takes registry records after the first open"
     FirstRecordOnly "first-record-only" "replay counts the octets of a call's first record alone"
     CutSilent "cut-without-stop" "replay ends at a cut record without a stop"

@@ -1,4 +1,4 @@
-//! The model: a second implementation of document 01 (01-scope.md) and of A1 of document 02
+//! The model: a second implementation of document 01 (01-scope.md) and of A1 and A2 of document 02
 //! (02-change-requests.md), against which the proved library is compared call by call.
 //!
 //! Independence. It was written from document 01 and the team's readings of it (readings.md);
@@ -9,7 +9,8 @@
 //! faults, and a trace that is replayed block by block (`trace`). No rule of a call was. What the
 //! records program prints (`listing`) was added from its format by one who had read the library's
 //! decisions, and not its rules or code. A1 (`summary`, and what the totals program prints) was
-//! written from document 02 and the readings, by one who had read of the library its C header.
+//! written from document 02 and the readings, by one who had read of the library its C header; and
+//! so was A2 (refusal 23, in `segment`), when that header had nothing of it yet.
 //!
 //! Style. Bits are first read into small types in which only what is good can be written: a
 //! `Cursor` and `?` for the octets, `Position` for octets 3 and 3a, `Line` for the receiving

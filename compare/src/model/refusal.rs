@@ -25,6 +25,7 @@ pub enum Refusal {
     ShortArea = 20,
     NoRow = 21,
     LargeTotal = 22,
+    PaddedContext = 23,
 }
 
 impl Refusal {

@@ -52,7 +52,7 @@ impl Table {
 }
 
 impl<const B: bool> Machine<B> {
-    /// Refusals 5 to 9, in the order in which the octets show them.
+    /// Refusals 5 to 9 and 23, in the order in which the octets show them.
     pub(crate) fn read<'a>(
         &self,
         table: &Table,
@@ -60,8 +60,7 @@ impl<const B: bool> Machine<B> {
         parameter: &'a [u8],
     ) -> Result<Segment<'a>, Refusal> {
         let mut cursor = Cursor::new(parameter);
-        let context = context(&mut cursor)?;
-        let mut edition = table.edition(context).ok_or(Refusal::Unregistered)?;
+        let (context, mut edition) = self.context(table, &mut cursor)?;
         if self.broken(Fault::AddressesAlways) {
             edition = Edition::Of2000;
         }
@@ -77,6 +76,38 @@ impl<const B: bool> Machine<B> {
         let information = cursor.rest();
         let start = parameter.len() - information.len();
         Ok(Segment { key, instruction, position, start, information })
+    }
+
+    /// Octet 1, and 1a if it is there: a context with its edition. Octet 1a is refused for its
+    /// extension (6), then for saying nothing (23), and only then is the context looked up (8).
+    fn context(&self, table: &Table, cursor: &mut Cursor) -> Result<(u16, Edition), Refusal> {
+        let (low, more) = cursor.extended()?;
+        if self.broken(Fault::PaddedEarly) && more {
+            let mut ahead = *cursor;
+            Refusal::PaddedContext.unless(ahead.extended()?.0 != 0)?;
+        }
+        let high = if more { cursor.last()? } else { 0 };
+        let context = u16::from(high) << 7 | u16::from(low);
+        let edition = || table.edition(context).ok_or(Refusal::Unregistered);
+        if self.broken(Fault::PaddedLate) {
+            edition()?;
+        }
+        Refusal::PaddedContext.unless(!more || !self.padded(context, cursor.rest()))?;
+        Ok((context, edition()?))
+    }
+
+    /// Whether a context that came in two octets has a zero upper part, so that one would do.
+    fn padded(&self, context: u16, rest: &[u8]) -> bool {
+        let (low, high) = (context & 0x7f, context >> 7);
+        match self.fault() {
+            Some(Fault::PaddedTaken) => false,
+            Some(Fault::PaddedByLow) => low == 0,
+            Some(Fault::TwoOctetsRefused) => true,
+            Some(Fault::Padded128) => context <= 128,
+            // Octet 3 comes after octet 2.
+            Some(Fault::PaddedLater) => high == 0 && rest.get(1).is_none_or(|o| o & 0x40 != 0),
+            _ => high == 0,
+        }
     }
 
     /// Octet 3, and 3a if it is there, with the reference.
@@ -102,13 +133,6 @@ impl<const B: bool> Machine<B> {
         }
         cursor.address()
     }
-}
-
-/// Low seven bits, then the high seven if the first octet is not the last.
-fn context(cursor: &mut Cursor) -> Result<u16, Refusal> {
-    let (low, more) = cursor.extended()?;
-    let high = if more { cursor.last()? } else { 0 };
-    Ok(u16::from(high) << 7 | u16::from(low))
 }
 
 fn key(association: u16, context: u16, reference: u8, origin: &[u8]) -> Key {

@@ -1,4 +1,4 @@
-//! Document 01's worked examples, and A1's rules.
+//! Document 01's worked examples, and the rules of A1 and A2.
 
 use crate::*;
 
@@ -15,8 +15,12 @@ struct Host {
 
 impl Host {
     fn open(clock: u32) -> Host {
+        Host::open_with(&REGISTRY, clock)
+    }
+
+    fn open_with(registry: &[u8], clock: u32) -> Host {
         let mut summary = Summary { mark: [7; ROWS], ..Summary::EMPTY };
-        let opened = MODEL.opening(&mut summary, &REGISTRY, 100, clock);
+        let opened = MODEL.opening(&mut summary, registry, 100, clock);
         assert_eq!((opened.refusal, summary), (0, Summary::EMPTY));
         let (store, report) = (vec![0xEE; STORE], vec![0xEE; SWEEP]);
         Host { table: opened.table, summary, store, report }
@@ -76,7 +80,12 @@ fn record(kind: u8, context: u8, fields: [u8; 4], octets: u16, origin: &[u8]) ->
 
 /// The refusal of one parameter from a fresh opening.
 fn refusal(parameter: &[u8]) -> u8 {
-    let mut host = Host::open(0);
+    refusal_with(&REGISTRY, parameter)
+}
+
+/// The same with other contexts registered.
+fn refusal_with(registry: &[u8], parameter: &[u8]) -> u8 {
+    let mut host = Host::open_with(registry, 0);
     let table = host.table;
     let received = host.segment(parameter);
     assert_eq!((received.table, host.summary), (table, Summary::EMPTY));
@@ -102,18 +111,20 @@ fn m1_and_m7_to_m10_refusals() {
 }
 
 #[test]
-fn m2_and_m12_unsegmented() {
-    for parameter in [&[0x83, 0x80, 0xC0, 0xAA, 0xBB][..], &[0x03, 0x80, 0x80, 0xC0, 0xAA]] {
-        let mut host = Host::open(0);
-        let received = host.segment(parameter);
-        let data = host.data(&received, parameter);
-        assert_eq!(data, parameter[parameter.len() - data.len()..]);
-        let length = data.len() as u16;
-        assert_eq!(length, if parameter[0] == 0x83 { 2 } else { 1 });
-        assert_eq!(host.report[..RECORD], record(16, 3, [255, 0, 0, 1], length, &[]));
-        assert_eq!(host.open_places(), 0);
-        assert!(host.store.iter().all(|octet| *octet == 0xEE));
-    }
+fn m2_unsegmented() {
+    let parameter = [0x83, 0x80, 0xC0, 0xAA, 0xBB];
+    let mut host = Host::open(0);
+    let received = host.segment(&parameter);
+    assert_eq!(host.data(&received, &parameter), [0xAA, 0xBB]);
+    assert_eq!(host.report[..RECORD], record(16, 3, [255, 0, 0, 1], 2, &[]));
+    assert_eq!(host.open_places(), 0);
+    assert!(host.store.iter().all(|octet| *octet == 0xEE));
+}
+
+/// By A2; before it, this was context 3, Delivered.
+#[test]
+fn m12_is_refused() {
+    assert_eq!(refusal(&[0x03, 0x80, 0x80, 0xC0, 0xAA]), 23);
 }
 
 #[test]
@@ -303,7 +314,7 @@ fn records_lines() {
     assert_eq!(records(&trace), expected);
 }
 
-/// Readings of the order of refusals 5 to 9.
+/// Readings of the order of refusals 5 to 9. `05 80` was 8 before A2.
 #[test]
 fn readings() {
     let cases: &[(&[u8], u8)] = &[
@@ -314,7 +325,8 @@ fn readings() {
         (&[0x83, 0x80, 0x80], 7),
         (&[0x05], 5),
         (&[0x05, 0x05], 6),
-        (&[0x05, 0x80], 8),
+        (&[0x05, 0x80], 23),
+        (&[0x05, 0x81], 8),
         (&[0x80, 0x80], 8),
         (&[0x84, 0x80, 0xC0, 0x15], 9),
         (&[0x84, 0x80, 0xC0, 0x14], 5),
@@ -487,4 +499,147 @@ fn totals_lines() {
     ];
     let expected = "opening 1 0\n9 2 3 2 3 0 0\nopening 5 12\nopening 7 0\n9 1 1 0 0 0 0\nstop\n";
     assert_eq!(totals(&trace), expected);
+}
+
+/// At octet 1a: 5, 6, 23, 8. Whether the context is registered, 23 does not ask.
+#[test]
+fn octet_1a_in_order() {
+    for low in [0x00, 0x03, 0x04, 0x05, 0x7F] {
+        assert_eq!(refusal(&[low]), 5, "{low}");
+        assert_eq!(refusal(&[low, 0x00]), 6, "{low}");
+        assert_eq!(refusal(&[low, 0x00, 0x80, 0xC0]), 6, "{low}");
+        assert_eq!(refusal(&[low, 0x01, 0x80, 0xC0]), 6, "{low}");
+        assert_eq!(refusal(&[low, 0x80]), 23, "{low}");
+        assert_eq!(refusal(&[low, 0x80, 0x80, 0xC0]), 23, "{low}");
+        assert_eq!(refusal(&[low, 0x81]), 8, "{low}");
+        assert_eq!(refusal(&[low, 0xFF, 0x80, 0xC0]), 8, "{low}");
+    }
+    // In one octet, as before.
+    assert_eq!(refusal(&[0x80]), 8);
+    assert_eq!(refusal(&[0x83]), 5);
+    assert_eq!(refusal(&[0x83, 0x00]), 6);
+    assert_eq!(Host::open(0).segment(&[0x83, 0x80, 0xC0]).refusal, 0);
+}
+
+/// What is further to the right, and what comes after reading.
+#[test]
+fn what_23_comes_before() {
+    let cases: &[&[u8]] = &[
+        &[0x03, 0x80, 0x00, 0xC0],
+        &[0x03, 0x80, 0x80],
+        &[0x03, 0x80, 0x80, 0x40, 0x85],
+        &[0x03, 0x80, 0x80, 0x40, 0x05],
+        &[0x04, 0x80, 0x80, 0xC0, 0x15],
+        &[0x04, 0x80, 0x80, 0xC0, 0x02],
+        &[0x03, 0x80, 0x80, 0x4A, 0x85],
+        &[0x03, 0x80, 0x80, 0x00, 0x85],
+    ];
+    for parameter in cases {
+        assert_eq!(refusal(parameter), 23, "{parameter:02X?}");
+    }
+    let padded = [&[0x03, 0x80], &FIRST[1..]].concat();
+    let mut host = Host::open(0);
+    (0..64).for_each(|association| assert_eq!(host.segment_of(association, &ALONE).refusal, 0));
+    assert_eq!(host.segment_of(64, &FIRST).refusal, 21);
+    assert_eq!(host.segment_of(64, &padded).refusal, 23);
+    host.summary.totals[0][20] = TOTAL_MOST;
+    assert_eq!(host.segment_of(20, &FIRST).refusal, 22);
+    assert_eq!(host.segment_of(20, &padded).refusal, 23);
+    (0..16).for_each(|association| assert_eq!(host.segment_of(association, &FIRST).refusal, 0));
+    assert_eq!(host.segment_of(30, &FIRST).refusal, 10);
+    assert_eq!(host.segment_of(30, &padded).refusal, 23);
+}
+
+/// What is asked of the table, of the areas and of the whole parameter.
+#[test]
+fn what_23_comes_after() {
+    let long = |length: usize| {
+        let mut parameter = vec![0x03, 0x80, 0x80, 0xC0];
+        parameter.resize(length, 0);
+        parameter
+    };
+    assert_eq!((refusal(&long(255)), refusal(&long(256))), (23, 4));
+    let mut host = Host::open(0);
+    assert_eq!(host.segment(&long(5)).refusal, 23);
+    host.report.truncate(31);
+    assert_eq!(host.segment(&long(5)).refusal, 3);
+    host.store.truncate(STORE - 1);
+    assert_eq!(host.segment(&long(5)).refusal, 2);
+    host.table.timer = 0;
+    assert_eq!(host.segment(&long(5)).refusal, 1);
+}
+
+/// The least context that needs two octets.
+#[test]
+fn context_128() {
+    let parameter = [0x00, 0x81, 0x80, 0xC0];
+    assert_eq!(refusal(&parameter), 8);
+    let mut host = Host::open_with(&[1, 0, 128], 0);
+    let received = host.segment(&parameter);
+    assert_eq!((received.refusal, received.decision.kind, received.records), (0, 2, 1));
+    assert_eq!(host.report[..RECORD], record(16, 128, [255, 0, 0, 1], 0, &[]));
+    assert_eq!(refusal_with(&[1, 0, 128], &[0x00, 0x80, 0x80, 0xC0]), 23);
+    assert_eq!(refusal_with(&[1, 0, 127], &[0x7F, 0x80, 0x80, 0xC0]), 23);
+    assert_eq!(Host::open_with(&[1, 0, 127], 0).segment(&[0xFF, 0x80, 0xC0]).refusal, 0);
+}
+
+/// A sequence is neither begun, continued nor broken by a padded segment, and it goes on after it.
+#[test]
+fn a_padded_segment_touches_nothing() {
+    let mut host = Host::open(0);
+    host.segment(&[0x83, 0x81, 0x41, 0x85, 0xAA]);
+    let before = (host.table, host.summary, host.store.clone(), host.report.clone());
+    for octet3 in [0x00, 0x01, 0x41, 0x42, 0x4A] {
+        let received = host.segment(&[0x03, 0x80, 0x80, octet3, 0x85, 0xBB]);
+        let refused = Received { table: before.0, refusal: 23, ..Received::default() };
+        assert_eq!(received, refused);
+    }
+    let Host { table, summary, store, report } = &host;
+    assert_eq!((*table, *summary, store, report), (before.0, before.1, &before.2, &before.3));
+    let last = host.segment(&[0x83, 0x80, 0x00, 0x85, 0xBB]);
+    assert_eq!(host.data(&last, &[]), [0xAA, 0xBB]);
+    assert_eq!(host.rows(), [(0, 9, [2, 2, 2, 2, 0, 0])]);
+}
+
+/// Of all the octets that could be a context's, one form is accepted for each context.
+#[test]
+fn equal_contexts_mean_equal_octets() {
+    let contexts = [1, 3, 127, 128, 129, 255, 256, 16_383_u16];
+    let registry: Vec<u8> =
+        contexts.iter().flat_map(|context| [1, (context >> 8) as u8, *context as u8]).collect();
+    let mut host = Host::open_with(&registry, 0);
+    let one = (0..=255).map(|octet: u8| vec![octet]);
+    let forms = one.chain((0..=u16::MAX).map(|two| two.to_be_bytes().to_vec()));
+    let mut accepted = Vec::new();
+    for form in forms {
+        let received = host.segment(&[&form[..], &[0x80, 0xC0]].concat());
+        if received.refusal == 0 {
+            assert_eq!(received.decision.kind, 2);
+            accepted.push((u16::from_be_bytes([host.report[3], host.report[4]]), form));
+        }
+    }
+    accepted.sort();
+    let expected: [&[u8]; 8] = [
+        &[0x81],
+        &[0x83],
+        &[0xFF],
+        &[0x00, 0x81],
+        &[0x01, 0x81],
+        &[0x7F, 0x81],
+        &[0x00, 0x82],
+        &[0x7F, 0xFF],
+    ];
+    let expected: Vec<_> = contexts.into_iter().zip(expected.map(<[u8]>::to_vec)).collect();
+    assert_eq!(accepted, expected);
+}
+
+/// The programs' lines of a padded segment; in the registry, as in records, a context has two
+/// octets whatever it is.
+#[test]
+fn padded_lines() {
+    let trace = [vec![1, 0, 3], OPEN.to_vec(), event(&[0x03, 0x80, 0x80, 0xC0, 0xAA])].concat();
+    assert_eq!(MODEL.replay(&trace), "open 0 0 0 0\nsegment 23 0 0 0\n");
+    let expected = "open 0 0 0 0 1 -\nsegment 23 0 0 0 2 refused 23\n";
+    assert_eq!(MODEL.printed(&trace, crate::Output::Records), expected);
+    assert_eq!(MODEL.printed(&trace, crate::Output::Totals), "opening 1 0\n");
 }
