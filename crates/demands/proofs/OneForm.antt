@@ -37,8 +37,8 @@ module _ (m : Machine) (d : Demand1 m) (st : State) (x : Arrival) (good : m .ste
 pub one-form : (m : Machine) → Demand1 m → OneForm m
 one-form m d =
     record {
-      shortest = λ st x o good. shortest (st .table .registry) (x .parameter) (reading-accepted m d st x good) (octet-small _ o 0) (octet-small _ o 1);
+      shortest = λ st x o good. shortest (st .table .registry) (x .parameter) (reading-accepted m d st x good) (octet-small (x .parameter) o 0) (octet-small (x .parameter) o 1);
       equal = λ st st′ x x′ o o′ good good′ same.
           equal-octets (st .table .registry) (st′ .table .registry) (x .parameter) (x′ .parameter) (reading-accepted m d st x good) (reading-accepted m d st′ x′ good′)
-          (octet-small _ o 0) (octet-small _ o 1) (octet-small _ o′ 0) (octet-small _ o′ 1) same;
+          (octet-small (x .parameter) o 0) (octet-small (x .parameter) o 1) (octet-small (x′ .parameter) o′ 0) (octet-small (x′ .parameter) o′ 1) same;
     }
