@@ -1,5 +1,5 @@
 -- The steps of the segment call, one after the other, are its rule.
-use Prim.Native.Nat.{ℕ, zero, suc, _≤_}
+use Prim.Native.Nat.{ℕ, zero, suc}
 use mathlib.Core.Path.{_≡_, refl, sym, ap, _∙_}
 use mathlib.Core.Bool.{Bool, true, false, not, _&&_, and-eq-true-iff, true≢false}
 use mathlib.Core.List.{List, [], _∷_, _++_}
@@ -7,8 +7,7 @@ use native.Mathlib.Omega.{arith}
 use borrow.Author.Tests.{eqb-true}
 use lib.ListN.{length, getD}
 use Rattle.rules.specs.General.{every}
-use Rattle.rules.specs.Numbers.{parameterMost, addressMost}
-use Rattle.rules.specs.Refusals.{Check, accepted, first, judged}
+use Rattle.rules.specs.Refusals.{Check, judged}
 use Rattle.rules.specs.Layout.{isUnsegmented, fieldsOf, readingChecks}
 use Rattle.rules.specs.Places.{noPlace, freePlace, isOpen, placeOf, lowestFree, isAt, placeAt}
 use Rattle.rules.specs.Soundness.{freeSound, placeSound, sound}
@@ -16,9 +15,7 @@ use Rattle.rules.proofs.Held.{open-is, places-sound}
 use Rattle.rules.proofs.Soundness.{open-parts}
 use Rattle.rules.specs.declared.Entry.{Entry}
 use Rattle.rules.specs.Receiving.{keyOf, informationOf, lineOf, lineAt, isStart, effectOf, Reception, receptionOf, lentChecks, takingChecks, segmentChecks, segment, unreceived}
-use Rattle.rules.proofs.Refusals.{judged-append, judged-then, first-least}
-use Rattle.rules.proofs.Least.{reading-least}
-use Rattle.rules.proofs.Reading.{parameter-short, address-short}
+use Rattle.rules.proofs.Refusals.{judged-append, judged-then}
 use Rattle.param_read.specs.Reading.{reading}
 use Rattle.param_read.specs.declared.Reading.{Reading}
 use Rattle.param_read.specs.declared.Reading.the-variants.{Read, Refused}
@@ -38,8 +35,9 @@ use Rattle.receive_perform.specs.declared.Verdict.{Verdict}
 use Rattle.receive_carry.specs.Carried.{foundIf, heldIf, carriedAt, Fit}
 use Rattle.receive_carry.proofs.Stepping.{kept}
 use Rattle.receive_carry.specs.declared.Judged.{Judged}
-use Rattle.receive_segment.specs.Arrival.{Seeks, arrival, OfVerdict}
-use Rattle.receive_segment.specs.declared.Sought.{Sought}
+use Rattle.receive_seek.specs.Seeking.{Seeks}
+use Rattle.receive_seek.specs.declared.Sought.{Sought}
+use Rattle.receive_segment.specs.Arrival.{arrival, OfVerdict}
 
 pub leads-as : {o o′ : Reception} {t : Table} {at : ℕ} {k : Key} {v : Verdict} {octets st rp : List ℕ} → o ≡ o′ → Leads o t at k v octets st rp → Leads o′ t at k v octets st rp
 leads-as {o} {o′} {t} {at} {k} {v} {octets} {st} {rp} e l =
@@ -218,45 +216,3 @@ segment-is t store report association s n m a b =
     ∙ judged-append areas reads (unreceived t store report) _
     ∙ ap (λ (r : Reception). judged areas (unreceived t store report) r) (sym (judged-then (afterReading t store report association s) reads Refused (Read f)))
     ∙ rw (a, b)
-
--- a parameter that is read is short, and so is its address
-pub record Short (s : List ℕ) (f : Fields) : Type 0 where
-  pub parameter : length s ≤ parameterMost
-  pub address : f .length ≤ addressMost
-
-pub read-short : (t : Table) (s : List ℕ) (f : Fields) → reading (t .registry) s ≡ Read f → Short s f
-unfolding reading
-read-short t s f e = go (accepted (readingChecks (t .registry) s)) refl
-  where
-    go : (b : Bool) → accepted (readingChecks (t .registry) s) ≡ b → Short s f
-    go true a =
-        let same : fieldsOf (t .registry) s ≡ f = let same-read = simp a at e in cc in
-        record { parameter = parameter-short (t .registry) s a; address = rw same at (address-short (t .registry) s a) }
-    go false a = let z : _≡_ {A = ℕ} 0 1 = let other = simp a at e in cc in absurd (let y : ⊥ = omega arith in y)
-
--- readings that are one have one number or the same fields
-pub read-same : (f g : Fields) → _≡_ {A = Reading} (Read f) (Read g) → f ≡ g
-read-same f g e = cc
-
-pub refused-read : (n : ℕ) (f : Fields) → _≡_ {A = Reading} (Refused n) (Read f) → ⊥
-refused-read n f e = let z : _≡_ {A = ℕ} 0 1 = cc in (let y : ⊥ = omega arith in y)
-
--- what is read are the fields; what is not has a number
-pub read-fields : (registry : List Entry) (s : List ℕ) (f : Fields) → reading registry s ≡ Read f → fieldsOf registry s ≡ f
-unfolding reading
-read-fields registry s f e = go (accepted (readingChecks registry s)) refl
-  where
-    go : (b : Bool) → accepted (readingChecks registry s) ≡ b → fieldsOf registry s ≡ f
-    go true a = let same = simp a at e in cc
-    go false a = absurd (refused-read _ f (simp a at e))
-
-pub read-number : (registry : List Entry) (s : List ℕ) (n : ℕ) → reading registry s ≡ Refused n → n ≡ 0 → ⊥
-unfolding reading
-read-number registry s n e z = go (accepted (readingChecks registry s)) refl
-  where
-    go : (b : Bool) → accepted (readingChecks registry s) ≡ b → ⊥
-    go true a = refused-read n (fieldsOf registry s) (sym (simp a at e))
-    go false a =
-        let same : first (readingChecks registry s) ≡ n = let h = simp a at e in cc in
-        let least = first-least 2 (readingChecks registry s) (reading-least registry s) a in
-        omega arith

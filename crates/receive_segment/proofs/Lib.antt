@@ -1,3 +1,2 @@
-pub mod Address
 pub mod Arriving
 pub mod Weighing

@@ -1,30 +1,22 @@
--- A segment that has been read: the place that it is about, and what becomes of it.
+-- What becomes of a segment that has been read.
 use Prim.Native.Nat.{ℕ}
 use mathlib.Core.Path.{_≡_}
 use mathlib.Core.Bool.{Bool, true, false}
 use mathlib.Core.List.{List}
 use lib.ListN.{length, drop}
 use Rattle.rules.specs.Refusals.{judged}
-use Rattle.rules.specs.Layout.{isUnsegmented, fieldsOf}
+use Rattle.rules.specs.Layout.{fieldsOf}
 use Rattle.rules.specs.Places.{placeOf, lowestFree, placeAt}
 use Rattle.rules.specs.Receiving.{informationOf, lineAt, effectOf, takingChecks, Reception, receptionOf, unreceived, segment}
-use Rattle.table.specs.Seeking.{Points}
 use Rattle.receive_perform.specs.Performing.{Fits, Leads}
 use Rattle.receive_perform.specs.declared.Verdict.{Verdict}
 use Rattle.receive_count.specs.Counting.{OfCount}
 use Rattle.receive_count.specs.declared.Count.{Count}
-use Rattle.receive_segment.specs.declared.Sought.{Sought}
 use Rattle.rules.specs.declared.Key.{Key}
 use Rattle.rules.specs.declared.Table.{Table}
-use Rattle.rules.specs.declared.Heading.{Heading}
 use Rattle.rules.specs.declared.Fields.{Fields}
 use Rattle.rules.specs.declared.Found.{Found}
 use Rattle.rules.specs.declared.Line.{Line}
-
--- what is sought for a key; an unsegmented parameter needs no place
-pub record Seeks (t : Table) (k : Key) (g : Heading) (q : Sought) : Type 0 where
-  pub key-is : q .key ≡ k
-  pub points : isUnsegmented (g .new) (g .remaining .0) ≡ false → Points (placeOf k (t .places)) (lowestFree (t .places)) (q .search)
 
 -- what becomes of a segment of a key, with fields f and these octets: 10, or what its line does
 unfoldable pub arrival : Table → List ℕ → List ℕ → Key → Fields → List ℕ → Reception

@@ -3,114 +3,32 @@ use param_read::Reading;
 use receive_carry::Judged;
 use receive_count::Count;
 use receive_perform::Verdict;
+use receive_seek::Sought;
 use rules::Decision;
 use rules::Fields;
-use rules::Key;
 use rules::Place;
 use rules::Received;
 use rules::Table;
-use table::Search;
 ghost use mathlib.Core.Path.{_≡_};
-ghost use mathlib.Core.Bool.{true, false};
+ghost use mathlib.Core.Bool.{true};
 ghost use mathlib.Core.List.{List, []};
 ghost use Prim.Native.Nat.{ℕ, _≤_, _<_};
 ghost use lib.ListN.{length, drop, getD};
-ghost use Rattle.rules.specs.Numbers.{parameterMost, storeLeast, addressMost, placeCount};
-ghost use Rattle.rules.specs.Places.{noPlace, placeOf, lowestFree};
+ghost use Rattle.rules.specs.Numbers.{parameterMost, storeLeast, placeCount};
+ghost use Rattle.rules.specs.Places.{noPlace};
 ghost use Rattle.rules.specs.Receiving.{keyOf, informationOf, unreceived};
 ghost use Rattle.rules.specs.Soundness.{sound};
 ghost use Rattle.rules.specs.Promises.{OfSegment};
 ghost use Rattle.param_read.specs.Reading.{reading};
-ghost use Rattle.table.specs.Seeking.{Points};
 ghost use Rattle.receive_perform.specs.Performing.{refusedWith, Fits, Leads};
-ghost use Rattle.receive_segment.specs.Arrival.{Seeks, arrival, OfVerdict, OfWeighing};
-
-// A parameter's reading, its key, and the place that it is about.
-pub struct Sought {
-    pub reading: Reading,
-    pub key: Key,
-    pub search: Search,
-}
-
-// The key of a segment's sequence: its originating address is copied, zero filled.
-fn key_of(association: u16, s: &[u8], f: Fields) -> Key
-    requires { ⌜ f .length ≤ addressMost ⌝ }
-    ensures { λ r. ⌜ r ≡ keyOf association (now (s .entry)) f ⌝ }
-{
-    let from = f.origin;
-    let n = f.length as usize;
-    let heading = f.heading;
-    let context = heading.context;
-    let reference = heading.reference;
-    let mut address = [0; 20];
-    octets::put(&mut address, octets::part(s, from, n));
-    Key {
-        address,
-        association,
-        context,
-        reference,
-        length: f.length,
-    }
-}
+ghost use Rattle.receive_seek.specs.Seeking.{Seeks};
+ghost use Rattle.receive_segment.specs.Arrival.{arrival, OfVerdict, OfWeighing};
 
 // A refusal: the place stays as it is, and nothing is to be written.
 fn refused(number: u8, held: Place) -> Verdict
     ensures { λ r. ⌜ r ≡ refusedWith number held ⌝ }
 {
     receive_perform::quiet(held, Decision::Refused, number, 0)
-}
-
-// A parameter that touches no place.
-fn nowhere(reading: Reading, key: Key) -> Sought
-    ensures { λ r. ⌜ r ≡ record { reading = reading; key = key; search = record { at = 0; found = false; vacant = false } } ⌝ }
-{
-    let search = Search {
-        at: 0,
-        found: false,
-        vacant: false,
-    };
-    Sought {
-        reading,
-        key,
-        search,
-    }
-}
-
-// A parameter that was read, with the place that it is about.
-fn placed(places: [Place; 16], reading: Reading, key: Key) -> Sought
-    ensures { λ r. ⌜ (r .reading ≡ reading) × (Points (placeOf key places) (lowestFree places) (r .search) × (r .key ≡ key)) ⌝ }
-{
-    let search = table::search_for(places, key);
-    Sought {
-        reading,
-        key,
-        search,
-    }
-}
-
-// Reads a parameter, and seeks the place that it is about. An unsegmented one touches no place.
-fn seek(t: Table, association: u16, s: &[u8]) -> Sought
-    ensures { λ r. ⌜ (r .reading ≡ reading (t .registry) (now (s .entry))) × (r .search .at < placeCount) ⌝ }
-    ensures { λ r. ⌜ ((f : Fields) → r .reading ≡ Reading.Read f → Seeks t (keyOf association (now (s .entry)) f) (f .heading) r) ⌝ }
-{
-    let registry = t.registry;
-    let reading = param_read::read(registry, s);
-    match reading {
-        Reading::Refused(_) => {
-            let free = table::free_place();
-            let key = free.key;
-            nowhere(reading, key)
-        }
-        Reading::Read(f) => {
-            let key = key_of(association, s, f);
-            let alone = f.heading.new & (f.heading.remaining.0 == 0);
-            if alone {
-                return nowhere(reading, key);
-            }
-            let places = t.places;
-            placed(places, reading, key)
-        }
-    }
 }
 
 // The verdict on a segment that has been read. The checks of where its line takes it are the last ones.
@@ -234,7 +152,7 @@ pub fn segment(
 {
     let both = sound::are_sound(t, m);
     let mut next = t;
-    let q = seek(t, association, s);
+    let q = receive_seek::seek(t, association, s);
     let at = q.search.at;
     let held = next.places[at];
     let v = judge(

@@ -7,7 +7,8 @@ use borrow.Author.Tests.{not-true, not-false, lt-ltb, le-ltb}
 use Rattle.rules.specs.Receiving.{informationOf}
 use Rattle.rules.specs.declared.Key.{Key}
 use Rattle.receive_segment.specs.Arrival.{arrival}
-use Rattle.receive_segment.proofs.Arriving.{leads-as, refused-verdict, segment-is, read-short, read-fields, read-number}
+use Rattle.receive_seek.proofs.Reading.{read-short, read-fields, read-number}
+use Rattle.receive_segment.proofs.Arriving.{leads-as, refused-verdict, segment-is}
 use borrow.Author.Needs.{needs}
 use Rattle.receive_segment.proofs.judge.Statement.{statement}
 use Rattle.receive_segment.proofs.judge.Tie as tie

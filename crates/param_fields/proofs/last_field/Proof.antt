@@ -1,8 +1,8 @@
 use borrow.Author.Tests.{le-leb, lt-leb}
-use Rattle.param_read.specs.Reading.{lastField}
+use Rattle.param_fields.specs.Fields.{lastField}
 use borrow.Author.Needs.{needs}
-use Rattle.param_read.proofs.last_field.Statement.{statement}
-use Rattle.param_read.proofs.last_field.Tie as tie
+use Rattle.param_fields.proofs.last_field.Statement.{statement}
+use Rattle.param_fields.proofs.last_field.Tie as tie
 
 returns : tie.Need-returns
 unfolding lastField

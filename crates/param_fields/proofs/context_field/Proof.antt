@@ -1,10 +1,10 @@
 use mathlib.Core.Path.{sym, _∙_}
 use borrow.Author.Tests.{le-leb, lt-leb}
-use Rattle.param_read.specs.Reading.{contextField}
-use Rattle.param_read.proofs.Chain.{context-one, context-two}
+use Rattle.param_fields.specs.Fields.{contextField}
+use Rattle.param_fields.proofs.Chain.{context-one, context-two}
 use borrow.Author.Needs.{needs}
-use Rattle.param_read.proofs.context_field.Statement.{statement}
-use Rattle.param_read.proofs.context_field.Tie as tie
+use Rattle.param_fields.proofs.context_field.Statement.{statement}
+use Rattle.param_fields.proofs.context_field.Tie as tie
 
 returns : tie.Need-returns
 unfolding contextField

@@ -1,7 +1,7 @@
-use Rattle.receive_segment.proofs.Address.{key-is}
+use Rattle.receive_seek.proofs.Address.{key-is}
 use borrow.Author.Needs.{needs}
-use Rattle.receive_segment.proofs.key_of.Statement.{statement}
-use Rattle.receive_segment.proofs.key_of.Tie as tie
+use Rattle.receive_seek.proofs.key_of.Statement.{statement}
+use Rattle.receive_seek.proofs.key_of.Tie as tie
 
 cast-n : tie.Need-cast-n
 cast-n c = search needs

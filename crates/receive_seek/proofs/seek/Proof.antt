@@ -3,11 +3,11 @@ use mathlib.Core.Bool.{true≢false}
 use denote.Ref.{now}
 use native.Mathlib.Omega.{arith}
 use Rattle.rules.specs.Receiving.{keyOf}
-use Rattle.receive_segment.specs.declared.Sought.{Sought}
-use Rattle.receive_segment.proofs.Arriving.{read-short, read-same, refused-read}
+use Rattle.receive_seek.specs.declared.Sought.{Sought}
+use Rattle.receive_seek.proofs.Reading.{read-short, read-same, refused-read}
 use borrow.Author.Needs.{needs}
-use Rattle.receive_segment.proofs.seek.Statement.{statement}
-use Rattle.receive_segment.proofs.seek.Tie as tie
+use Rattle.receive_seek.proofs.seek.Statement.{statement}
+use Rattle.receive_seek.proofs.seek.Tie as tie
 
 read-requires : tie.Need-read-requires
 read-requires c κs = search needs

@@ -1,8 +1,8 @@
 use mathlib.Core.Path.{sym, _∙_}
 use borrow.Author.Tests.{eq-eqb, ne-eqb}
 use borrow.Author.Needs.{needs}
-use Rattle.param_read.proofs.known.Statement.{statement}
-use Rattle.param_read.proofs.known.Tie as tie
+use Rattle.param_fields.proofs.known.Statement.{statement}
+use Rattle.param_fields.proofs.known.Tie as tie
 
 kind-of-requires : tie.Need-kind-of-requires
 kind-of-requires c κs = search needs

@@ -1,10 +1,10 @@
 use mathlib.Core.Path.{sym, _∙_}
 use borrow.Author.Tests.{le-leb, lt-leb}
-use Rattle.param_read.specs.Reading.{sequenceField}
-use Rattle.param_read.proofs.Chain.{sequence-two}
+use Rattle.param_fields.specs.Fields.{sequenceField}
+use Rattle.param_fields.proofs.Chain.{sequence-two}
 use borrow.Author.Needs.{needs}
-use Rattle.param_read.proofs.sequence_field.Statement.{statement}
-use Rattle.param_read.proofs.sequence_field.Tie as tie
+use Rattle.param_fields.proofs.sequence_field.Statement.{statement}
+use Rattle.param_fields.proofs.sequence_field.Tie as tie
 
 returns : tie.Need-returns
 unfolding sequenceField

@@ -2,10 +2,10 @@ use Prim.Native.Nat.{_+_, _<_, _≤_}
 use native.Mathlib.Omega.{arith}
 use lib.ListN.{length, getD}
 use borrow.Author.Tests.{le-leb, lt-leb, lt-ltb, le-ltb}
-use Rattle.param_read.specs.Reading.{addressField}
+use Rattle.param_fields.specs.Fields.{addressField}
 use borrow.Author.Needs.{needs}
-use Rattle.param_read.proofs.address_field.Statement.{statement}
-use Rattle.param_read.proofs.address_field.Tie as tie
+use Rattle.param_fields.proofs.address_field.Statement.{statement}
+use Rattle.param_fields.proofs.address_field.Tie as tie
 
 returns : tie.Need-returns
 unfolding addressField

@@ -1,0 +1,61 @@
+-- What a reading says of the parameter.
+use Prim.Native.Nat.{ℕ, _≤_}
+use mathlib.Core.Path.{_≡_, refl, sym}
+use mathlib.Core.Bool.{Bool, true, false}
+use mathlib.Core.List.{List}
+use native.Mathlib.Omega.{arith}
+use lib.ListN.{length}
+use Rattle.rules.specs.Numbers.{parameterMost, addressMost}
+use Rattle.rules.specs.Refusals.{accepted, first}
+use Rattle.rules.specs.Layout.{fieldsOf, readingChecks}
+use Rattle.rules.proofs.Refusals.{first-least}
+use Rattle.rules.proofs.Least.{reading-least}
+use Rattle.rules.proofs.Reading.{parameter-short, address-short}
+use Rattle.param_read.specs.Reading.{reading}
+use Rattle.param_read.specs.declared.Reading.{Reading}
+use Rattle.param_read.specs.declared.Reading.the-variants.{Read, Refused}
+use Rattle.rules.specs.declared.Entry.{Entry}
+use Rattle.rules.specs.declared.Table.{Table}
+use Rattle.rules.specs.declared.Fields.{Fields}
+
+-- a parameter that is read is short, and so is its address
+pub record Short (s : List ℕ) (f : Fields) : Type 0 where
+  pub parameter : length s ≤ parameterMost
+  pub address : f .length ≤ addressMost
+
+pub read-short : (t : Table) (s : List ℕ) (f : Fields) → reading (t .registry) s ≡ Read f → Short s f
+unfolding reading
+read-short t s f e = go (accepted (readingChecks (t .registry) s)) refl
+  where
+    go : (b : Bool) → accepted (readingChecks (t .registry) s) ≡ b → Short s f
+    go true a =
+        let same : fieldsOf (t .registry) s ≡ f = let same-read = simp a at e in cc in
+        record { parameter = parameter-short (t .registry) s a; address = rw same at (address-short (t .registry) s a) }
+    go false a = let z : _≡_ {A = ℕ} 0 1 = let other = simp a at e in cc in absurd (let y : ⊥ = omega arith in y)
+
+-- readings that are one have one number or the same fields
+pub read-same : (f g : Fields) → _≡_ {A = Reading} (Read f) (Read g) → f ≡ g
+read-same f g e = cc
+
+pub refused-read : (n : ℕ) (f : Fields) → _≡_ {A = Reading} (Refused n) (Read f) → ⊥
+refused-read n f e = let z : _≡_ {A = ℕ} 0 1 = cc in (let y : ⊥ = omega arith in y)
+
+-- what is read are the fields; what is not has a number
+pub read-fields : (registry : List Entry) (s : List ℕ) (f : Fields) → reading registry s ≡ Read f → fieldsOf registry s ≡ f
+unfolding reading
+read-fields registry s f e = go (accepted (readingChecks registry s)) refl
+  where
+    go : (b : Bool) → accepted (readingChecks registry s) ≡ b → fieldsOf registry s ≡ f
+    go true a = let same = simp a at e in cc
+    go false a = absurd (refused-read _ f (simp a at e))
+
+pub read-number : (registry : List Entry) (s : List ℕ) (n : ℕ) → reading registry s ≡ Refused n → n ≡ 0 → ⊥
+unfolding reading
+read-number registry s n e z = go (accepted (readingChecks registry s)) refl
+  where
+    go : (b : Bool) → accepted (readingChecks registry s) ≡ b → ⊥
+    go true a = refused-read n (fieldsOf registry s) (sym (simp a at e))
+    go false a =
+        let same : first (readingChecks registry s) ≡ n = let h = simp a at e in cc in
+        let least = first-least 2 (readingChecks registry s) (reading-least registry s) a in
+        omega arith
