@@ -2,12 +2,15 @@
 use rules::Place;
 use rules::Table;
 ghost use mathlib.Core.Path.{_≡_};
+ghost use mathlib.Core.List.{map};
 ghost use Prim.Native.Nat.{_≤_};
 ghost use lib.ListN.{take, drop};
-ghost use Rattle.rules.specs.General.{every, everyTwo};
+ghost use Rattle.rules.specs.General.{every, everyTwo, those};
+ghost use Rattle.rules.specs.Places.{isOpen};
 ghost use Rattle.sound.specs.Digest.{isOther};
 ghost use Rattle.rules.specs.Summary.{summarySound};
 ghost use Rattle.rules.specs.Soundness.{placesApart, sound};
+ghost use Rattle.sound_open.specs.Digest.{associationOf};
 
 // Whether two places are not open with one key.
 fn are_apart(p: Place, q: Place) -> bool
@@ -83,9 +86,17 @@ fn keys_apart(places: [Place; 16]) -> bool
     true
 }
 
-// Whether a table is sound. Where the digests of open places differ their keys do, and no key need be looked at.
-pub fn is_sound(t: Table) -> bool
-    ensures { λ r. ⌜ r ≡ sound t ⌝ }
+// Whether a table is sound, and the associations of its open places, one after the other.
+struct Judged {
+    names: [u16; 16],
+    open: usize,
+    sound: bool,
+}
+
+// Where the digests of open places differ their keys do, and no key need be looked at.
+fn judge(t: Table) -> Judged
+    ensures { λ r. ⌜ r .sound ≡ sound t ⌝ }
+    ensures { λ r. ⌜ (r .open ≤ 16) × (take (r .open) (r .names) ≡ map associationOf (those isOpen (t .places))) ⌝ }
 {
     let timed = (1 <= t.timer) & (t.timer <= 1000000);
     let registry = t.registry;
@@ -95,10 +106,26 @@ pub fn is_sound(t: Table) -> bool
     let seen = sound_open::look_over(places, registry, t.timer, t.clock);
     let each = timed & listed & seen.sound & idle;
     let digests = seen.digests;
+    let names = seen.names;
     if all_differ(digests, seen.open) {
-        return each;
+        return Judged {
+            names,
+            open: seen.open,
+            sound: each,
+        };
     }
-    each & keys_apart(places)
+    Judged {
+        names,
+        open: seen.open,
+        sound: each & keys_apart(places),
+    }
+}
+
+// Whether a table is sound.
+pub fn is_sound(t: Table) -> bool
+    ensures { λ r. ⌜ r ≡ sound t ⌝ }
+{
+    judge(t).sound
 }
 
 // Whether a table, and a summary beside it, is sound.
@@ -107,11 +134,15 @@ pub struct Soundness {
     pub summary: bool,
 }
 
-// Both in one call: a table that is handed on is copied.
+// Both in one call: of the table the summary's soundness wants the open places' associations, which are seen with the table's.
 pub fn are_sound(t: Table, m: &[u64; rules::SUMMARY]) -> Soundness
     ensures { λ r. ⌜ (r .table ≡ sound t) × (r .summary ≡ summarySound (now (m .entry)) (t .places)) ⌝ }
 {
-    let summary = summary::is_sound(m, t);
-    let table = is_sound(t);
-    Soundness { table, summary }
+    let j = judge(t);
+    let names = j.names;
+    let summary = sound_rows::is_sound(m, names, j.open);
+    Soundness {
+        table: j.sound,
+        summary,
+    }
 }

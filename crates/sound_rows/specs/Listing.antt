@@ -1,13 +1,12 @@
 -- The associations of used rows as a list, packed at the front of an array: what the code tells apart and looks up.
 use Prim.Native.Nat.{ℕ, zero, suc, _%_}
-use mathlib.Core.Bool.{Bool, not, _||_}
+use mathlib.Core.Bool.{Bool, not, _&&_}
 use mathlib.Core.List.{List, [], _∷_}
 use lib.Dec.{eqb}
 use lib.ListN.{getD}
 use Rattle.rules.specs.General.{if_then_else_, every}
-use Rattle.rules.specs.Places.{isOpen}
-use Rattle.rules.specs.Summary.{numberAt}
-use Rattle.rules.specs.declared.Place.{Place}
+use Rattle.rules.specs.Places.{isAt}
+use Rattle.rules.specs.Summary.{everyBelow, everyPair, rowCount, numberAt, rowSound, rowsApart, rowOf}
 
 -- a number that is another
 abbrev pub isOther : ℕ → ℕ → Bool
@@ -27,6 +26,14 @@ back l (suc n) = getD l n 0 ∷ back l n
 abbrev pub lowOf : List ℕ → ℕ → ℕ
 lowOf m row = numberAt m 1 row % 65536
 
--- an open place's association is one of the list
-abbrev pub seatedIn : List ℕ → Place → Bool
-seatedIn l p = not (isOpen p) || not (every (isOther (p .key .association)) l)
+-- one of the list
+abbrev pub listedIn : List ℕ → ℕ → Bool
+listedIn l x = not (every (isOther x) l)
+
+-- an association that has a row
+abbrev pub hasRow : List ℕ → ℕ → Bool
+hasRow m association = isAt (rowOf m association)
+
+-- a summary that is sound beside open places of these associations
+abbrev pub soundBeside : List ℕ → List ℕ → Bool
+soundBeside m names = everyBelow rowCount (rowSound m) && everyPair rowCount (rowsApart m) && every (hasRow m) names

@@ -9,8 +9,8 @@ use borrow.Author.Tests.{eqb-true, eqb-false, leb-true}
 use lib.ListN.{length}
 use Rattle.rules.specs.General.{if_then_else_}
 use Rattle.rules.specs.Summary.{everyBelow, numberAt, isUsed}
-use Rattle.summary.specs.Listing.{ofThose, back}
-use Rattle.summary.proofs.Sound.{markSound}
+use Rattle.sound_rows.specs.Listing.{ofThose, back}
+use Rattle.sound_rows.proofs.Sound.{markSound}
 
 pub back-length : (l : List ℕ) (n : ℕ) → length (back l n) ≡ n
 back-length l zero = refl

@@ -1,7 +1,7 @@
 -- The associations of used rows as a list: what it tells of the rows, and how it grows at the front of an array.
 use Prim.Native.Nat.{ℕ, zero, suc, _+_, _<_, _≤_}
 use mathlib.Core.Path.{_≡_, refl, sym, ap, _∙_}
-use mathlib.Core.Bool.{Bool, true, false, not, _&&_, _||_, and-false, and-eq-true-iff}
+use mathlib.Core.Bool.{Bool, true, false, not, _&&_, and-false, and-eq-true-iff}
 use mathlib.Core.List.{List, [], _∷_}
 use native.Mathlib.Omega.{arith}
 use native.Mathlib.Numerals.{add-one}
@@ -10,14 +10,13 @@ use lib.Dec.{eqb, ltb}
 use lib.ListN.{length, getD, set}
 use lib.Seq.{getD-set-same, getD-set-other}
 use Rattle.rules.specs.General.{if_then_else_, every, everyTwo}
-use Rattle.rules.specs.Places.{isOpen, isAt}
-use Rattle.rules.specs.Summary.{everyBelow, everyPair, firstBelow, orElse, rowCount, numberAt, isUsed, isFor, rowOf, rowSound, rowsApart, isSeated}
-use Rattle.rules.specs.declared.Place.{Place}
+use Rattle.rules.specs.Places.{isAt}
+use Rattle.rules.specs.Summary.{everyBelow, everyPair, firstBelow, orElse, rowCount, numberAt, isUsed, isFor, rowOf, rowSound, rowsApart}
 use Rattle.rules.specs.declared.Found.{Found}
 use Rattle.rules.specs.declared.Found.the-variants.{At, Nothing}
-use Rattle.summary.specs.Listing.{isOther, ofThose, back, lowOf, seatedIn}
+use Rattle.sound_rows.specs.Listing.{isOther, ofThose, back, lowOf, listedIn, hasRow}
 use Rattle.rules.proofs.Below.{below-at}
-use Rattle.summary.proofs.Sound.{markSound, nameSound, first-of, row-is}
+use Rattle.sound_rows.proofs.Sound.{markSound, nameSound, first-of, row-is}
 
 below-all : (n : ℕ) → everyBelow n (λ i. true) ≡ true
 below-all zero = refl
@@ -85,11 +84,11 @@ module _ (m : List ℕ) (sound : everyBelow rowCount (rowSound m) ≡ true) wher
   low-row : (a : ℕ) → every (isOther a) (ofThose (isUsed m) (lowOf m) rowCount) ≡ not (isAt (rowOf m a))
   low-row a = ap (every (isOther a)) low-all ∙ told-each (isUsed m) (numberAt m 1) a rowCount ∙ none-found (isFor m a) rowCount
 
-  pub low-seated : (ps : List Place) → every (seatedIn (ofThose (isUsed m) (lowOf m) rowCount)) ps ≡ every (isSeated m) ps
-  low-seated [] = refl
-  low-seated (p ∷ ps) = rw (low-row (p .key .association), low-seated ps) (go (isAt (rowOf m (p .key .association))))
+  pub low-listed : (names : List ℕ) → every (listedIn (ofThose (isUsed m) (lowOf m) rowCount)) names ≡ every (hasRow m) names
+  low-listed [] = refl
+  low-listed (a ∷ names) = rw (low-row a, low-listed names) (go (isAt (rowOf m a)))
     where
-      go : (b : Bool) → ((not (isOpen p) || not (not b)) && every (isSeated m) ps) ≡ ((not (isOpen p) || b) && every (isSeated m) ps)
+      go : (b : Bool) → (not (not b) && every (hasRow m) names) ≡ (b && every (hasRow m) names)
       go true = refl
       go false = refl
 

@@ -1,7 +1,7 @@
 use borrow.Author.Tests.{eq-eqb, ne-eqb}
 use borrow.Author.Needs.{needs}
-use Rattle.summary.proofs.is_new_if.Statement.{statement}
-use Rattle.summary.proofs.is_new_if.Tie as tie
+use Rattle.sound_rows.proofs.is_new_if.Statement.{statement}
+use Rattle.sound_rows.proofs.is_new_if.Tie as tie
 
 returns : tie.Need-returns
 returns c = rw (eq-eqb _ _ (c .if1 .taken))

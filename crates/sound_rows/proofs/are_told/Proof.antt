@@ -5,20 +5,20 @@ use borrow.Author.Tests.{not-true, not-false}
 use borrow.Author.Needs.{needs}
 use Rattle.rules.specs.Summary.{rowCount, isUsed}
 use lib.ListN.{length}
-use Rattle.summary.specs.Listing.{ofThose, lowOf}
+use Rattle.sound_rows.specs.Listing.{ofThose, lowOf}
 use Rattle.rules.proofs.Rows.{row-count}
-use Rattle.summary.proofs.Flags.{Listed, none-yet, to-come, whole, passed, added}
-use Rattle.summary.proofs.are_told.Statement.{statement}
-use Rattle.summary.proofs.are_told.Tie as tie
+use Rattle.sound_rows.proofs.Flags.{Listed, none-yet, to-come, whole, passed, added}
+use Rattle.sound_rows.proofs.are_told.Statement.{statement}
+use Rattle.sound_rows.proofs.are_told.Tie as tie
 
 abbrev Inv-loop : tie.InvT-loop
-Inv-loop m t used list₀ hints₀ apart₀ n₀ i₀ list hints apart n i = (i ≤ 64) × ((n ≤ i) × ((used + i ≤ n + 64) × Listed (isUsed m) (lowOf m) list hints apart n i))
+Inv-loop m used names n₁ list₀ hints₀ apart₀ n₀ i₀ list hints apart n i = (i ≤ 64) × ((n ≤ i) × ((used + i ≤ n + 64) × Listed (isUsed m) (lowOf m) list hints apart n i))
 
 abbrev μ-loop : tie.MeasureT-loop
-μ-loop m t used list₀ hints₀ apart₀ n₀ i₀ list hints apart n i = 64 - i
+μ-loop m used names n₁ list₀ hints₀ apart₀ n₀ i₀ list hints apart n i = 64 - i
 
 loop-holds : tie.Need-loop-holds Inv-loop μ-loop
-loop-holds c = (omega arith, (omega arith, (to-come (isUsed (c .args .m .now)) (lowOf (c .args .m .now)) _ _ _ 0 0 (none-yet _ _) 64 (c .args .used) (c .pre ∙ ap (λ k. length (ofThose (isUsed (c .args .m .now)) (lowOf (c .args .m .now)) k)) row-count) (omega arith), none-yet _ _)))
+loop-holds c = (omega arith, (omega arith, (to-come (isUsed (c .args .m .now)) (lowOf (c .args .m .now)) _ _ _ 0 0 (none-yet _ _) 64 (c .args .used) (c .pre .0 ∙ ap (λ k. length (ofThose (isUsed (c .args .m .now)) (lowOf (c .args .m .now)) k)) row-count) (omega arith), none-yet _ _)))
 
 add-if1 : tie.Need-add-if1 Inv-loop μ-loop
 add-if1 c = omega arith
@@ -40,8 +40,8 @@ loop-again c =
     let l = c .before .before .before in
     let m = l .before .args .m .now in
     let inv = l .loop .inv .1 in
-    let more = passed (isUsed m) (lowOf m) (l .loop .list) (l .loop .hints) (l .loop .apart) (l .loop .n) (l .loop .i) (inv .1 .1) (not-true _ (c .if1 .taken)) in
-    (omega arith, (omega arith, (omega (arith, row-count, to-come _ _ _ _ _ _ _ more rowCount _ (l .before .pre) (omega (arith, row-count))), more)))
+    let more = passed (isUsed m) (lowOf m) (l .loop .list) (l .loop .hints) (l .loop .apart) (l .loop .told) (l .loop .i) (inv .1 .1) (not-true _ (c .if1 .taken)) in
+    (omega arith, (omega arith, (omega (arith, row-count, to-come _ _ _ _ _ _ _ more rowCount _ (l .before .pre .0) (omega (arith, row-count))), more)))
 
 add-low : tie.Need-add-low Inv-loop μ-loop
 add-low c = omega arith
@@ -76,8 +76,8 @@ mul-list c = omega arith
 array-write-list : tie.Need-array-write-list Inv-loop μ-loop
 array-write-list c = omega arith
 
-add-n : tie.Need-add-n Inv-loop μ-loop
-add-n c = omega arith
+add-told : tie.Need-add-told Inv-loop μ-loop
+add-told c = omega arith
 
 add-i-2 : tie.Need-add-i-2 Inv-loop μ-loop
 add-i-2 c = omega arith
@@ -95,20 +95,20 @@ loop-again-2 c =
     let m = l .before .args .m .now in
     let inv = l .loop .inv .1 in
     let more =
-    added (isUsed m) (lowOf m) (l .loop .list) (l .loop .hints) (l .loop .apart) (l .loop .n) (l .loop .i) (inv .1 .1) (not-false _ (e .if1 .left)) (omega arith)
+    added (isUsed m) (lowOf m) (l .loop .list) (l .loop .hints) (l .loop .apart) (l .loop .told) (l .loop .i) (inv .1 .1) (not-false _ (e .if1 .left)) (omega arith)
     (x .low .result) (x .low .ensures) (o .octet-of .result) (o .octet-of .ensures .0) (o .octet-of .ensures .1) (c .hint-of .result) (c .hint-of .ensures)
     (f .is-new-if .result) (f .is-new-if .ensures) in
-    (omega arith, (omega arith, (omega (arith, row-count, to-come _ _ _ _ _ _ _ more rowCount _ (l .before .pre) (omega (arith, row-count))), more)))
+    (omega arith, (omega arith, (omega (arith, row-count, to-come _ _ _ _ _ _ _ more rowCount _ (l .before .pre .0) (omega (arith, row-count))), more)))
 
-all-seated-requires : tie.Need-all-seated-requires Inv-loop μ-loop
-all-seated-requires c κs = omega arith
+all-listed-requires : tie.Need-all-listed-requires Inv-loop μ-loop
+all-listed-requires c κs = omega arith
 
 returns : tie.Need-returns Inv-loop μ-loop
 returns c =
     let l = c .before .before .before .before in
     let inv = l .loop .inv .1 .1 .1 in
-    let end = whole _ _ _ _ _ _ _ inv rowCount _ (l .before .pre) (omega (arith, row-count)) (omega arith) in
-    rw (inv .told, c .all-seated .ensures, inv .first, end)
+    let end = whole _ _ _ _ _ _ _ inv rowCount _ (l .before .pre .0) (omega (arith, row-count)) (omega arith) in
+    rw (inv .told, c .all-listed .ensures, inv .first, end)
 
 pub are-told-spec : {M : Type 1} → statement M
 are-told-spec =
@@ -134,9 +134,9 @@ are-told-spec =
     array-write-hints
     mul-list
     array-write-list
-    add-n
+    add-told
     add-i-2
     loop-less-2
     loop-again-2
-    all-seated-requires
+    all-listed-requires
     returns)

@@ -1,8 +1,8 @@
 use Prim.Native.Nat.{_%_}
-use Rattle.summary.proofs.Packed.{back-at}
+use Rattle.sound_rows.proofs.Packed.{back-at}
 use borrow.Author.Needs.{needs}
-use Rattle.summary.proofs.is_listed.Statement.{statement}
-use Rattle.summary.proofs.is_listed.Tie as tie
+use Rattle.sound_rows.proofs.is_listed.Statement.{statement}
+use Rattle.sound_rows.proofs.is_listed.Tie as tie
 
 cast-i : tie.Need-cast-i
 cast-i c = search needs

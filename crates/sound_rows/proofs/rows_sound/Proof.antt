@@ -7,13 +7,13 @@ use borrow.Author.Needs.{needs}
 use lib.Dec.{eqb, leb}
 use lib.ListN.{length}
 use Rattle.rules.specs.Summary.{everyBelow, rowCount, isUsed}
-use Rattle.summary.specs.Listing.{ofThose, lowOf}
+use Rattle.sound_rows.specs.Listing.{ofThose, lowOf}
 use Rattle.rules.proofs.Rows.{row-count}
-use Rattle.summary.proofs.Sound.{markSound, nameSound, restSound, first-of, rows-are}
-use Rattle.summary.proofs.Counted.{count-more}
-use Rattle.summary.proofs.Bits.{or-zero, or-below}
-use Rattle.summary.proofs.rows_sound.Statement.{statement}
-use Rattle.summary.proofs.rows_sound.Tie as tie
+use Rattle.sound_rows.proofs.Sound.{markSound, nameSound, restSound, first-of, rows-are}
+use Rattle.sound_rows.proofs.Counted.{count-more}
+use Rattle.sound_rows.proofs.Bits.{or-zero, or-below}
+use Rattle.sound_rows.proofs.rows_sound.Statement.{statement}
+use Rattle.sound_rows.proofs.rows_sound.Tie as tie
 
 abbrev Inv-loop : tie.InvT-loop
 Inv-loop m marks₀ names₀ rest₀ used₀ i₀ marks names rest used i = (i ≤ 64) × ((leb marks 1 ≡ everyBelow i (markSound m)) × ((leb names 65535 ≡ everyBelow i (nameSound m)) × ((eqb rest 0 ≡ everyBelow i (restSound m)) × ((used ≤ i) × (everyBelow i (markSound m) ≡ true → used ≡ length (ofThose (isUsed m) (lowOf m) i))))))

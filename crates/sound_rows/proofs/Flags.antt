@@ -10,9 +10,9 @@ use lib.Dec.{eqb}
 use lib.ListN.{length, getD, set, length-set, replicate}
 use lib.Seq.{getD-set-same, getD-set-other}
 use Rattle.rules.specs.General.{if_then_else_, every, everyTwo}
-use Rattle.summary.specs.Listing.{isOther, ofThose, back}
-use Rattle.summary.proofs.Packed.{back-more}
-use Rattle.summary.proofs.Counted.{back-length, no-more, all-met}
+use Rattle.sound_rows.specs.Listing.{isOther, ofThose, back}
+use Rattle.sound_rows.proofs.Packed.{back-more}
+use Rattle.sound_rows.proofs.Counted.{back-length, no-more, all-met}
 
 -- a number for whose low octet there is a hint
 abbrev hinted : List ℕ → ℕ → Bool

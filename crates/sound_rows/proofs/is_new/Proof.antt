@@ -3,9 +3,9 @@ use mathlib.Core.Path.{_≡_, refl, _∙_}
 use native.Mathlib.Numerals.{add-one}
 use native.Mathlib.Omega.{arith}
 use Rattle.rules.specs.General.{every}
-use Rattle.summary.specs.Listing.{isOther, back}
-use Rattle.summary.proofs.is_new.Statement.{statement}
-use Rattle.summary.proofs.is_new.Tie as tie
+use Rattle.sound_rows.specs.Listing.{isOther, back}
+use Rattle.sound_rows.proofs.is_new.Statement.{statement}
+use Rattle.sound_rows.proofs.is_new.Tie as tie
 
 abbrev Inv-loop : tie.InvT-loop
 Inv-loop list n x new₀ i₀ new i = (i ≤ n) × (new ≡ every (isOther x) (back list i))

@@ -1,0 +1,5 @@
+pub mod Bits
+pub mod Counted
+pub mod Sound
+pub mod Packed
+pub mod Flags
