@@ -8,9 +8,9 @@ ghost use lib.ListN.{take, drop};
 ghost use Rattle.rules.specs.General.{every, everyTwo, those};
 ghost use Rattle.rules.specs.Places.{isOpen};
 ghost use Rattle.sound.specs.Digest.{isOther};
+ghost use Rattle.sound.specs.Seated.{associationOf};
 ghost use Rattle.rules.specs.Summary.{summarySound};
 ghost use Rattle.rules.specs.Soundness.{placesApart, sound};
-ghost use Rattle.sound_open.specs.Digest.{associationOf};
 
 // Whether two places are not open with one key.
 fn are_apart(p: Place, q: Place) -> bool
@@ -86,17 +86,9 @@ fn keys_apart(places: [Place; 16]) -> bool
     true
 }
 
-// Whether a table is sound, and the associations of its open places, one after the other.
-struct Judged {
-    names: [u16; 16],
-    open: usize,
-    sound: bool,
-}
-
-// Where the digests of open places differ their keys do, and no key need be looked at.
-fn judge(t: Table) -> Judged
-    ensures { λ r. ⌜ r .sound ≡ sound t ⌝ }
-    ensures { λ r. ⌜ (r .open ≤ 16) × (take (r .open) (r .names) ≡ map associationOf (those isOpen (t .places))) ⌝ }
+// Whether a table is sound. Where the digests of open places differ their keys do, and no key need be looked at.
+pub fn is_sound(t: Table) -> bool
+    ensures { λ r. ⌜ r ≡ sound t ⌝ }
 {
     let timed = (1 <= t.timer) & (t.timer <= 1000000);
     let registry = t.registry;
@@ -106,26 +98,33 @@ fn judge(t: Table) -> Judged
     let seen = sound_open::look_over(places, registry, t.timer, t.clock);
     let each = timed & listed & seen.sound & idle;
     let digests = seen.digests;
-    let names = seen.names;
     if all_differ(digests, seen.open) {
-        return Judged {
-            names,
-            open: seen.open,
-            sound: each,
-        };
+        return each;
     }
-    Judged {
-        names,
-        open: seen.open,
-        sound: each & keys_apart(places),
-    }
+    each & keys_apart(places)
 }
 
-// Whether a table is sound.
-pub fn is_sound(t: Table) -> bool
-    ensures { λ r. ⌜ r ≡ sound t ⌝ }
+// The associations of the open places, one after the other, and how many there are.
+struct Named {
+    names: [u16; 16],
+    open: usize,
+}
+
+// With no more than this in it the loop is unrolled, and reads the places where they are: no table is copied for it.
+fn names_of(places: [Place; 16]) -> Named
+    ensures { λ r. ⌜ (r .open ≤ 16) × (take (r .open) (r .names) ≡ map associationOf (those isOpen places)) ⌝ }
 {
-    judge(t).sound
+    let mut names = [0; 16];
+    let mut open = 0;
+    let mut i = 0;
+    while i < 16 {
+        if places[i].mark == 1 {
+            names[open] = places[i].key.association;
+            open += 1;
+        }
+        i += 1;
+    }
+    Named { names, open }
 }
 
 // Whether a table, and a summary beside it, is sound.
@@ -134,15 +133,14 @@ pub struct Soundness {
     pub summary: bool,
 }
 
-// Both in one call: of the table the summary's soundness wants the open places' associations, which are seen with the table's.
+// Both in one call.
 pub fn are_sound(t: Table, m: &[u64; rules::SUMMARY]) -> Soundness
     ensures { λ r. ⌜ (r .table ≡ sound t) × (r .summary ≡ summarySound (now (m .entry)) (t .places)) ⌝ }
 {
-    let j = judge(t);
-    let names = j.names;
-    let summary = sound_rows::is_sound(m, names, j.open);
-    Soundness {
-        table: j.sound,
-        summary,
-    }
+    let places = t.places;
+    let seen = names_of(places);
+    let names = seen.names;
+    let summary = sound_rows::is_sound(m, names, seen.open);
+    let table = is_sound(t);
+    Soundness { table, summary }
 }

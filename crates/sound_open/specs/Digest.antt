@@ -5,6 +5,3 @@ use Rattle.rules.specs.declared.Place.{Place}
 -- of the key all but the address
 abbrev pub digest : Place → ℕ
 digest p = (p .key .association * 65536 + p .key .context .0) * 65536 + (p .key .reference .0 * 256 + p .key .length)
-
-abbrev pub associationOf : Place → ℕ
-associationOf p = p .key .association

@@ -1,4 +1,4 @@
-// Whether the open places are sound, and their digests and associations.
+// Whether the open places are sound, and their digests.
 use rules::Entry;
 use rules::Place;
 ghost use mathlib.Core.Path.{_≡_};
@@ -8,7 +8,7 @@ ghost use lib.ListN.{take, drop};
 ghost use Rattle.rules.specs.General.{every, those};
 ghost use Rattle.rules.specs.Places.{isOpen};
 ghost use Rattle.rules.specs.Soundness.{isZero, addressSound, openSound};
-ghost use Rattle.sound_open.specs.Digest.{digest, associationOf};
+ghost use Rattle.sound_open.specs.Digest.{digest};
 ghost use Rattle.sound_open.specs.Filled.{mostOf, capped};
 ghost use Rattle.sound_open.specs.Open.{soundIfOpen};
 
@@ -80,10 +80,9 @@ fn open_sound(registry: [Entry; 8], timer: u32, clock: u32, p: Place) -> bool
     numbers & address & young
 }
 
-// What is seen of the open places: their digests and their associations, one after the other, and whether each is sound.
+// What is seen of the open places: their digests, one after the other, and whether each is sound.
 pub struct Seen {
     pub digests: [u64; 16],
-    pub names: [u16; 16],
     pub open: usize,
     pub sound: bool,
 }
@@ -101,10 +100,8 @@ fn digest_of(p: Place) -> u64
 pub fn look_over(places: [Place; 16], registry: [Entry; 8], timer: u32, clock: u32) -> Seen
     ensures { λ r. ⌜ r .sound ≡ every (soundIfOpen registry timer clock) places ⌝ }
     ensures { λ r. ⌜ (r .open ≤ 16) × (take (r .open) (r .digests) ≡ map digest (those isOpen places)) ⌝ }
-    ensures { λ r. ⌜ take (r .open) (r .names) ≡ map associationOf (those isOpen places) ⌝ }
 {
     let mut digests = [0; 16];
-    let mut names = [0; 16];
     let mut sound = true;
     let mut open = 0;
     let mut i = 0;
@@ -112,7 +109,6 @@ pub fn look_over(places: [Place; 16], registry: [Entry; 8], timer: u32, clock: u
         if places[i].mark == 1 {
             let p = places[i];
             digests[open] = digest_of(p);
-            names[open] = p.key.association;
             sound = sound & open_sound(registry, timer, clock, p);
             open += 1;
         }
@@ -120,7 +116,6 @@ pub fn look_over(places: [Place; 16], registry: [Entry; 8], timer: u32, clock: u
     }
     Seen {
         digests,
-        names,
         open,
         sound,
     }

@@ -3,3 +3,4 @@ pub mod Counted
 pub mod Sound
 pub mod Packed
 pub mod Flags
+pub mod First

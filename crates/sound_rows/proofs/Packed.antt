@@ -14,9 +14,9 @@ use Rattle.rules.specs.Places.{isAt}
 use Rattle.rules.specs.Summary.{everyBelow, everyPair, firstBelow, orElse, rowCount, numberAt, isUsed, isFor, rowOf, rowSound, rowsApart}
 use Rattle.rules.specs.declared.Found.{Found}
 use Rattle.rules.specs.declared.Found.the-variants.{At, Nothing}
-use Rattle.sound_rows.specs.Listing.{isOther, ofThose, back, lowOf, listedIn, hasRow}
+use Rattle.sound_rows.specs.Listing.{isOther, ofThose, back, lowOf, nameFits, listedIn, hasRow}
 use Rattle.rules.proofs.Below.{below-at}
-use Rattle.sound_rows.proofs.Sound.{markSound, nameSound, first-of, row-is}
+use Rattle.sound_rows.proofs.Sound.{markSound, first-of, row-is}
 
 below-all : (n : ℕ) → everyBelow n (λ i. true) ≡ true
 below-all zero = refl
@@ -71,8 +71,8 @@ module _ (chosen : ℕ → Bool) (value : ℕ → ℕ) where
 module _ (m : List ℕ) (sound : everyBelow rowCount (rowSound m) ≡ true) where
   used-named : (i : ℕ) → rowSound m i ≡ true → isUsed m i ≡ true → lowOf m i ≡ numberAt m 1 i
   used-named i e u =
-      let named : (markSound m i && nameSound m i) ≡ true = first-of _ _ (sym (row-is m i) ∙ e) in
-      omega (arith, leb-true (numberAt m 1 i) 65535 (and-eq-true-iff (markSound m i) (nameSound m i) .0 named .1))
+      let named : (markSound m i && nameFits m i) ≡ true = first-of _ _ (sym (row-is m i) ∙ e) in
+      omega (arith, leb-true (numberAt m 1 i) 65535 (and-eq-true-iff (markSound m i) (nameFits m i) .0 named .1))
 
   low-all : ofThose (isUsed m) (lowOf m) rowCount ≡ ofThose (isUsed m) (numberAt m 1) rowCount
   low-all = same-values (isUsed m) (numberAt m 1) (lowOf m) rowCount (λ i h u. used-named i (below-at (rowSound m) rowCount sound i h) u)

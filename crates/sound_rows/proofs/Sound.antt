@@ -8,6 +8,7 @@ use borrow.Author.Tests.{eqb-true, eqb-false, le-leb, lt-leb}
 use lib.Dec.{eqb, leb}
 use Rattle.rules.specs.Summary.{everyBelow, numberAt, isUnused, isBare, rowSound}
 use Rattle.rules.proofs.Below.{below-both}
+use Rattle.sound_rows.specs.Listing.{nameFits}
 
 row-pick : (m a : ℕ) (bare : Bool) → (bare ≡ true → a ≡ 0)
     → (eqb m 0 && bare || eqb m 1 && leb a 65535) ≡ ((leb m 1 && leb a 65535) && (not (eqb m 0) || bare))
@@ -28,19 +29,16 @@ module _ (m : List ℕ) where
   abbrev pub markSound : ℕ → Bool
   markSound i = leb (numberAt m 0 i) 1
 
-  abbrev pub nameSound : ℕ → Bool
-  nameSound i = leb (numberAt m 1 i) 65535
-
   abbrev pub restSound : ℕ → Bool
   restSound i = not (isUnused m i) || isBare m i
 
   bare-name : (i : ℕ) → isBare m i ≡ true → numberAt m 1 i ≡ 0
   bare-name i e = eqb-true _ 0 (first-of _ _ (first-of _ _ (first-of _ _ (first-of _ _ (first-of _ _ (first-of _ _ e))))))
 
-  pub row-is : (i : ℕ) → rowSound m i ≡ ((markSound i && nameSound i) && restSound i)
+  pub row-is : (i : ℕ) → rowSound m i ≡ ((markSound i && nameFits m i) && restSound i)
   row-is i = row-pick (numberAt m 0 i) (numberAt m 1 i) (isBare m i) (bare-name i)
 
-  pub rows-are : (n : ℕ) → everyBelow n (rowSound m) ≡ ((everyBelow n markSound && everyBelow n nameSound) && everyBelow n restSound)
+  pub rows-are : (n : ℕ) → everyBelow n (rowSound m) ≡ ((everyBelow n markSound && everyBelow n (nameFits m)) && everyBelow n restSound)
   rows-are n =
-      below-both (λ i. markSound i && nameSound i) restSound (rowSound m) row-is n
-      ∙ rw (below-both markSound nameSound (λ i. markSound i && nameSound i) (λ i. refl) n)
+      below-both (λ i. markSound i && nameFits m i) restSound (rowSound m) row-is n
+      ∙ rw (below-both markSound (nameFits m) (λ i. markSound i && nameFits m i) (λ i. refl) n)

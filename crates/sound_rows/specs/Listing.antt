@@ -1,12 +1,13 @@
 -- The associations of used rows as a list, packed at the front of an array: what the code tells apart and looks up.
-use Prim.Native.Nat.{ℕ, zero, suc, _%_}
-use mathlib.Core.Bool.{Bool, not, _&&_}
+use Prim.Native.Nat.{ℕ, zero, suc, _<_, _≤_, _%_}
+use mathlib.Core.Path.{_≡_}
+use mathlib.Core.Bool.{Bool, true, not, _&&_}
 use mathlib.Core.List.{List, [], _∷_}
-use lib.Dec.{eqb}
+use lib.Dec.{eqb, leb}
 use lib.ListN.{getD}
 use Rattle.rules.specs.General.{if_then_else_, every}
 use Rattle.rules.specs.Places.{isAt}
-use Rattle.rules.specs.Summary.{everyBelow, everyPair, rowCount, numberAt, rowSound, rowsApart, rowOf}
+use Rattle.rules.specs.Summary.{everyBelow, everyPair, rowCount, numberAt, isUnused, isBare, rowSound, rowsApart, rowOf}
 
 -- a number that is another
 abbrev pub isOther : ℕ → ℕ → Bool
@@ -25,6 +26,14 @@ back l (suc n) = getD l n 0 ∷ back l n
 -- the low half of a row's association, which in a sound row is all of it
 abbrev pub lowOf : List ℕ → ℕ → ℕ
 lowOf m row = numberAt m 1 row % 65536
+
+-- an association that is in range
+abbrev pub nameFits : List ℕ → ℕ → Bool
+nameFits m row = leb (numberAt m 1 row) 65535
+
+-- rows from one on that are not used
+abbrev pub EmptyFrom : List ℕ → ℕ → ℕ → Type 0
+EmptyFrom m at n = (row : ℕ) → at ≤ row → row < n → (isUnused m row && isBare m row) ≡ true
 
 -- one of the list
 abbrev pub listedIn : List ℕ → ℕ → Bool

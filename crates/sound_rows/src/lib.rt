@@ -2,11 +2,11 @@
 ghost use mathlib.Core.Path.{_≡_};
 ghost use mathlib.Core.Bool.{true, not, _&&_, _||_};
 ghost use Prim.Native.Nat.{_+_, _<_, _≤_, _%_};
-ghost use lib.Dec.{eqb};
+ghost use lib.Dec.{eqb, leb};
 ghost use lib.ListN.{length, take};
 ghost use Rattle.rules.specs.General.{if_then_else_, every, everyTwo};
 ghost use Rattle.rules.specs.Summary.{everyBelow, rowCount, isUsed, isBare, rowSound};
-ghost use Rattle.sound_rows.specs.Listing.{isOther, ofThose, back, lowOf, listedIn, soundBeside};
+ghost use Rattle.sound_rows.specs.Listing.{isOther, ofThose, back, lowOf, nameFits, EmptyFrom, listedIn, soundBeside};
 
 // All numbers of a row but the mark, in one: 0 where each is.
 fn rest_of(m: &[u64; rules::SUMMARY], i: usize) -> u64
@@ -32,8 +32,8 @@ struct Rows {
     used: usize,
 }
 
-// With no way out the loop takes several rows at a time.
-fn rows_sound(m: &[u64; rules::SUMMARY]) -> Rows
+// Used rows may stand anywhere. With no way out the loop takes several rows at a time.
+fn scattered_sound(m: &[u64; rules::SUMMARY]) -> Rows
     ensures { λ r. ⌜ (r .sound ≡ everyBelow rowCount (rowSound (now (m .entry)))) × (r .sound ≡ true → r .used ≡ length (ofThose (isUsed (now (m .entry))) (lowOf (now (m .entry))) rowCount)) ⌝ }
 {
     let mut marks: u64 = 0;
@@ -52,6 +52,62 @@ fn rows_sound(m: &[u64; rules::SUMMARY]) -> Rows
     Rows {
         sound: (marks <= 1) & (names <= 65535) & (rest == 0),
         used: used as usize,
+    }
+}
+
+// How many rows are used before the first that is not.
+fn first_used(m: &[u64; rules::SUMMARY]) -> usize
+    ensures { λ r. ⌜ (r ≤ 64) × (everyBelow r (isUsed (now (m .entry))) ≡ true) ⌝ }
+{
+    let mut i = 0;
+    while i < 64 {
+        if !(m[0 + i] == 1) {
+            return i;
+        }
+        i += 1;
+    }
+    64
+}
+
+// All associations of the first n rows, in one.
+fn names_of(m: &[u64; rules::SUMMARY], n: usize) -> u64
+    requires { ⌜ n ≤ 64 ⌝ }
+    ensures { λ r. ⌜ leb r 65535 ≡ everyBelow n (nameFits (now (m .entry))) ⌝ }
+{
+    let mut names: u64 = 0;
+    let mut i = 0;
+    while i < n {
+        names = m[64 + i] | names;
+        i += 1;
+    }
+    names
+}
+
+// All numbers of the rows from number at on, in one: 0 where each is.
+fn rest_from(m: &[u64; rules::SUMMARY], at: usize) -> u64
+    requires { ⌜ at ≤ 64 ⌝ }
+    ensures { λ r. ⌜ (eqb r 0 ≡ true → EmptyFrom (now (m .entry)) at 64) ⌝ }
+{
+    let mut rest: u64 = 0;
+    let mut i = at;
+    while i < 64 {
+        rest = m[0 + i] | rest_of(m, i) | rest;
+        i += 1;
+    }
+    rest
+}
+
+// Rows are used from the first on, as calls leave them, so that mostly no mark need be asked twice.
+fn rows_sound(m: &[u64; rules::SUMMARY]) -> Rows
+    ensures { λ r. ⌜ (r .sound ≡ everyBelow rowCount (rowSound (now (m .entry)))) × (r .sound ≡ true → r .used ≡ length (ofThose (isUsed (now (m .entry))) (lowOf (now (m .entry))) rowCount)) ⌝ }
+{
+    let used = first_used(m);
+    if !(rest_from(m, used) == 0) {
+        return scattered_sound(m);
+    }
+    Rows {
+        sound: names_of(m, used) <= 65535,
+        used,
     }
 }
 

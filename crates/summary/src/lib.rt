@@ -22,7 +22,7 @@ pub fn numbers(m: &[u64; rules::SUMMARY]) -> usize
     count(m)
 }
 
-// The row of an association.
+// The row of an association. The mark is asked second: few rows have the name.
 pub fn row_of(m: &[u64; rules::SUMMARY], association: u16) -> Found
     ensures { λ r. ⌜ r ≡ rowOf (now (m .entry)) association ⌝ }
     ensures { λ r. ⌜ ((i : ℕ) → r ≡ At i → i < 64) ⌝ }
@@ -30,7 +30,7 @@ pub fn row_of(m: &[u64; rules::SUMMARY], association: u16) -> Found
     let name = association as u64;
     let mut i = 0;
     while i < 64 {
-        if (m[0 + i] == 1) & (m[64 + i] == name) {
+        if (m[64 + i] == name) & (m[0 + i] == 1) {
             return Found::At(i);
         }
         i += 1;

@@ -5,18 +5,23 @@ use borrow.Author.Needs.{needs}
 use Rattle.sound.proofs.are_sound.Statement.{statement}
 use Rattle.sound.proofs.are_sound.Tie as tie
 
-judge-requires : tie.Need-judge-requires
-judge-requires c κs = search needs
+names-of-requires : tie.Need-names-of-requires
+names-of-requires c κs = search needs
 
 is-sound-requires : tie.Need-is-sound-requires
 is-sound-requires c κs = search needs
 
+is-sound-requires-2 : tie.Need-is-sound-requires-2
+is-sound-requires-2 c κs = search needs
+
 returns : tie.Need-returns
 returns c =
-    let j = c .before .before in
-    let a = j .before .args in
-    let names = j .judge .ensures .1 .1 in
-    (j .judge .ensures .0, c .is-sound .ensures ∙ ap (soundBeside (a .m .now)) names ∙ beside (a .m .now) (a .t .places))
+    let s = c .before in
+    let n = s .before .before in
+    let a = n .before .before .args in
+    let m = a .m .now in
+    (c .is-sound2 .ensures, s .is-sound .ensures ∙ ap (soundBeside m) (n .names-of .ensures .1) ∙ beside m (a .t .places))
 
 pub are-sound-spec : {M : Type 1} → statement M
-are-sound-spec = tie.close (tie.spec judge-requires is-sound-requires returns)
+are-sound-spec =
+    tie.close (tie.spec names-of-requires is-sound-requires is-sound-requires-2 returns)

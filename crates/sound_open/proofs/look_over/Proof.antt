@@ -5,25 +5,18 @@ use borrow.Author.Tests.{eq-eqb, ne-eqb}
 use lib.ListN.{length}
 use native.Mathlib.Omega.{arith}
 use borrow.Author.Needs.{needs}
-use Rattle.sound_open.proofs.Digest.{SoFar, seen-open, seen-other, seen-sound, noted-all}
+use Rattle.sound_open.proofs.Digest.{SoFar, seen-open, seen-other, seen-sound, seen-all}
 use Rattle.sound_open.proofs.look_over.Statement.{statement}
 use Rattle.sound_open.proofs.look_over.Tie as tie
 
 abbrev Inv-loop : tie.InvT-loop
-Inv-loop registry timer clock places digests₀ names₀ sound₀ open₀ i₀ digests names sound «open» i = SoFar registry timer clock places digests names sound «open» i
+Inv-loop registry timer clock places digests₀ sound₀ open₀ i₀ digests sound «open» i = SoFar registry timer clock places digests sound «open» i
 
 abbrev μ-loop : tie.MeasureT-loop
-μ-loop registry timer clock places digests₀ names₀ sound₀ open₀ i₀ digests names sound «open» i = 16 - i
+μ-loop registry timer clock places digests₀ sound₀ open₀ i₀ digests sound «open» i = 16 - i
 
 loop-holds : tie.Need-loop-holds Inv-loop μ-loop
-loop-holds c =
-    record {
-      each = refl;
-      digested = record { told = refl; sixteen = refl };
-      named = record { told = refl; sixteen = refl };
-      few = omega arith;
-      within = omega arith;
-    }
+loop-holds c = record { each = refl; told = refl; sixteen = refl; few = omega arith; within = omega arith }
 
 mul-if1 : tie.Need-mul-if1 Inv-loop μ-loop
 mul-if1 c = omega arith
@@ -46,12 +39,6 @@ mul-digests c = omega arith
 array-write-digests : tie.Need-array-write-digests Inv-loop μ-loop
 array-write-digests c = omega arith
 
-mul-names : tie.Need-mul-names Inv-loop μ-loop
-mul-names c = omega arith
-
-array-write-names : tie.Need-array-write-names Inv-loop μ-loop
-array-write-names c = omega arith
-
 open-sound-requires : tie.Need-open-sound-requires Inv-loop μ-loop
 open-sound-requires c κs = search needs
 
@@ -71,23 +58,21 @@ loop-again c =
     let a = l .before .args in
     let i = l .loop .i in
     let d = l .loop .digests in
-    let m = l .loop .names in
     let n = l .loop .«open» in
     ⊎-elim
-    (λ w. rw (w .4, w .5, w .6, w .7)
-    (seen-open (a .registry) (a .timer) (a .clock) (a .t1) d m (l .loop .sound) n i (l .loop .inv) (omega arith) (omega arith) (eq-eqb _ _ (w .0 .taken)) _ (w .2 .ensures) _ (w .3 .ensures)))
-    (λ w. rw (w .1, w .2, w .3, w .4)
-    (seen-other (a .registry) (a .timer) (a .clock) (a .t1) d m (l .loop .sound) n i (l .loop .inv) (omega arith) (omega arith) (ne-eqb _ _ (w .0 .left))))
+    (λ w. rw (w .4, w .5, w .6)
+    (seen-open (a .registry) (a .timer) (a .clock) (a .t1) d (l .loop .sound) n i (l .loop .inv) (omega arith) (omega arith) (eq-eqb _ _ (w .0 .taken)) _ (w .2 .ensures) _ (w .3 .ensures)))
+    (λ w. rw (w .1, w .2, w .3)
+    (seen-other (a .registry) (a .timer) (a .clock) (a .t1) d (l .loop .sound) n i (l .loop .inv) (omega arith) (omega arith) (ne-eqb _ _ (w .0 .left))))
     (c .if1 .came)
 
 returns : tie.Need-returns Inv-loop μ-loop
 returns c =
     let l = c .before in
     let a = l .before .args in
-    let inv = l .loop .inv in
     let end : length (a .t1) ≤ l .loop .i = omega arith in (
-      seen-sound (a .registry) (a .timer) (a .clock) (a .t1) _ _ _ _ (l .loop .i) inv end,
-      ((omega (arith, inv .few, inv .within), noted-all (inv .digested) end), noted-all (inv .named) end),
+      seen-sound (a .registry) (a .timer) (a .clock) (a .t1) _ _ _ (l .loop .i) (l .loop .inv) end,
+      (omega (arith, l .loop .inv .few, l .loop .inv .within), seen-all (a .registry) (a .timer) (a .clock) (a .t1) _ _ _ (l .loop .i) (l .loop .inv) end),
     )
 
 pub look-over-spec : {M : Type 1} → statement M
@@ -104,8 +89,6 @@ look-over-spec =
     digest-of-requires
     mul-digests
     array-write-digests
-    mul-names
-    array-write-names
     open-sound-requires
     add-open
     add-i

@@ -4,8 +4,8 @@ use Rattle.sound.specs.Digest.{isOther}
 use Rattle.sound.proofs.Digest.{told-all}
 use Rattle.sound.proofs.Halves.{sound-is, sound-apart}
 use borrow.Author.Needs.{needs}
-use Rattle.sound.proofs.judge.Statement.{statement}
-use Rattle.sound.proofs.judge.Tie as tie
+use Rattle.sound.proofs.is_sound.Statement.{statement}
+use Rattle.sound.proofs.is_sound.Tie as tie
 
 is-sound-requires : tie.Need-is-sound-requires
 is-sound-requires c κs = search needs
@@ -22,26 +22,24 @@ all-differ-requires c κs = search needs
 returns : tie.Need-returns
 returns c =
     let d = c .before in
-    let l = d .before .before .before .before in
-    let seen = l .look-over .ensures in
+    let l = d .before .before .before in
     let i = l .before in
     let t = i .before .before .before .before .before .before .args .t in
-    let apart = told-all (t .places) (ap (everyTwo isOther) (sym (seen .1 .0 .1)) ∙ sym (d .all-differ .ensures) ∙ c .if1 .taken) in
-    (rw (i .idle-sound .ensures, seen .0, i .before .is-sound .ensures) (sym (sound-apart t apart)), (seen .1 .0 .0, seen .1 .1))
+    let apart = told-all (t .places) (ap (everyTwo isOther) (sym (l .look-over .ensures .1 .1)) ∙ sym (d .all-differ .ensures) ∙ c .if1 .taken) in
+    rw (i .idle-sound .ensures, l .look-over .ensures .0, i .before .is-sound .ensures) (sym (sound-apart t apart))
 
 keys-apart-requires : tie.Need-keys-apart-requires
 keys-apart-requires c κs = search needs
 
 returns-2 : tie.Need-returns-2
 returns-2 c =
-    let l = c .before .before .before .before .before .before in
-    let seen = l .look-over .ensures in
+    let l = c .before .before .before .before .before in
     let i = l .before in
     let t = i .before .before .before .before .before .before .args .t in
-    (rw (c .keys-apart .ensures, i .idle-sound .ensures, seen .0, i .before .is-sound .ensures) (sym (sound-is t)), (seen .1 .0 .0, seen .1 .1))
+    rw (c .keys-apart .ensures, i .idle-sound .ensures, l .look-over .ensures .0, i .before .is-sound .ensures) (sym (sound-is t))
 
-pub judge-spec : {M : Type 1} → statement M
-judge-spec =
+pub is-sound-spec : {M : Type 1} → statement M
+is-sound-spec =
     tie.close
     (tie.spec
     is-sound-requires
