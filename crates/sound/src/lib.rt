@@ -127,20 +127,27 @@ fn names_of(places: [Place; 16]) -> Named
     Named { names, open }
 }
 
+// Whether a summary is sound beside a table.
+pub fn is_summed(t: Table, m: &[u64; rules::SUMMARY]) -> bool
+    ensures { λ r. ⌜ r ≡ summarySound (now (m .entry)) (t .places) ⌝ }
+{
+    let places = t.places;
+    let seen = names_of(places);
+    let names = seen.names;
+    sound_rows::is_sound(m, names, seen.open)
+}
+
 // Whether a table, and a summary beside it, is sound.
 pub struct Soundness {
     pub table: bool,
     pub summary: bool,
 }
 
-// Both in one call.
+// Both in one call, for which the table is copied once more.
 pub fn are_sound(t: Table, m: &[u64; rules::SUMMARY]) -> Soundness
     ensures { λ r. ⌜ (r .table ≡ sound t) × (r .summary ≡ summarySound (now (m .entry)) (t .places)) ⌝ }
 {
-    let places = t.places;
-    let seen = names_of(places);
-    let names = seen.names;
-    let summary = sound_rows::is_sound(m, names, seen.open);
     let table = is_sound(t);
+    let summary = is_summed(t, m);
     Soundness { table, summary }
 }

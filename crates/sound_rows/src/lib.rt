@@ -170,13 +170,7 @@ fn is_listed(hint: u8, list: &[u16; 64], n: usize, x: u16) -> bool
 }
 
 // Whether each of n associations is listed.
-fn all_listed(
-    list: &[u16; 64],
-    hints: &[u8; 256],
-    used: usize,
-    names: [u16; 16],
-    n: usize,
-) -> bool
+fn all_listed(list: &[u16; 64], hints: &[u8; 256], used: usize, names: [u16; 16], n: usize) -> bool
     requires { ⌜ (used ≤ 64) × (n ≤ 16) ⌝ }
     ensures { λ r. ⌜ r ≡ every (listedIn (back (now (list .entry)) used)) (take n names) ⌝ }
 {
