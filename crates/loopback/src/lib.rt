@@ -84,10 +84,11 @@ fn unfit(
 ) -> u8
     ensures { λ r. ⌜ r ≡ first (fitChecks t (now (m .entry)) association store report area) ⌝ }
 {
-    if !summary::is_sound(m, t) {
+    let both = sound::are_sound(t, m);
+    if !both.summary {
         return 1;
     }
-    if !sound::is_sound(t) {
+    if !both.table {
         return 1;
     }
     if store < rules::STORE {

@@ -150,14 +150,15 @@ pub fn segment(
 ) -> Received
     ensures { λ r. ⌜ OfSegment t (now (m .entry)) (now (store .entry)) (now (report .entry)) association (now (s .entry)) r (now (m .exit)) (now (store .exit)) (now (report .exit)) ⌝ }
 {
-    let both = sound::are_sound(t, m);
+    let is_sound = sound::is_sound(t);
+    let is_summed = sound::is_summed(t, m);
     let mut next = t;
     let q = receive_seek::seek(t, association, s);
     let at = q.search.at;
     let held = next.places[at];
     let v = judge(
         t,
-        both.table,
+        is_sound,
         store.len(),
         report.len(),
         association,
@@ -167,7 +168,7 @@ pub fn segment(
     );
     let octets = param_read::tail(s, v.information);
     let n = octets.len();
-    let c = count(m, both.summary, association, n, v);
+    let c = count(m, is_summed, association, n, v);
     if c.refusal != 0 {
         return refusal(next, c.refusal);
     }

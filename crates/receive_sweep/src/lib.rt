@@ -119,7 +119,7 @@ fn passed(t: Table, time: u32) -> Swept
     }
 }
 
-// Whether a sweep loses anything.
+// Whether a sweep loses anything. It is asked before `lose` is called, so that a call that loses nothing copies the table but for its answer.
 fn any_due(t: Table, which: Test) -> bool
     ensures { λ r. ⌜ r ≡ isAt (firstFrom (testOf which) (t .places) 0) ⌝ }
 {
@@ -169,9 +169,6 @@ fn lose(t: Table, m: &mut [u64; rules::SUMMARY], report: &mut [u8], time: u32, w
     ensures { λ _. ⌜ now (m .exit) ≡ sweptWith which time t (now (m .entry)) (now (report .entry)) .summary ⌝ }
     ensures { λ _. ⌜ now (report .exit) ≡ sweptWith which time t (now (m .entry)) (now (report .entry)) .call .report ⌝ }
 {
-    if !any_due(t, which) {
-        return passed(t, time);
-    }
     let mut trial = *m;
     if !billed(t, which, &mut trial) {
         return refused(t, 22);
@@ -197,8 +194,9 @@ fn judge(sound: bool, report: &[u8]) -> u8
 pub fn clock(t: Table, m: &mut [u64; rules::SUMMARY], report: &mut [u8], time: u32) -> Swept
     ensures { λ r. ⌜ OfClock t (now (m .entry)) (now (report .entry)) time r (now (m .exit)) (now (report .exit)) ⌝ }
 {
-    let both = sound::are_sound(t, m);
-    let refusal = judge(both.table & both.summary, report);
+    let is_sound = sound::is_sound(t);
+    let is_summed = sound::is_summed(t, m);
+    let refusal = judge(is_sound & is_summed, report);
     if refusal != 0 {
         return refused(t, refusal);
     }
@@ -206,7 +204,11 @@ pub fn clock(t: Table, m: &mut [u64; rules::SUMMARY], report: &mut [u8], time: u
         return refused(t, 13);
     }
     let timer = t.timer;
-    lose(t, m, report, time, Test::Aged { time, timer })
+    let which = Test::Aged { time, timer };
+    if !any_due(t, which) {
+        return passed(t, time);
+    }
+    lose(t, m, report, time, which)
 }
 
 // Loses every sequence of an association.
@@ -218,10 +220,15 @@ pub fn release(
 ) -> Swept
     ensures { λ r. ⌜ OfRelease t (now (m .entry)) (now (report .entry)) association r (now (m .exit)) (now (report .exit)) ⌝ }
 {
-    let both = sound::are_sound(t, m);
-    let refusal = judge(both.table & both.summary, report);
+    let is_sound = sound::is_sound(t);
+    let is_summed = sound::is_summed(t, m);
+    let refusal = judge(is_sound & is_summed, report);
     if refusal != 0 {
         return refused(t, refusal);
     }
-    lose(t, m, report, t.clock, Test::Of(association))
+    let which = Test::Of(association);
+    if !any_due(t, which) {
+        return passed(t, t.clock);
+    }
+    lose(t, m, report, t.clock, which)
 }

@@ -1,2 +1,3 @@
 pub mod Digest
 pub mod Halves
+pub mod Seated

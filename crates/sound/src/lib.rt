@@ -2,10 +2,13 @@
 use rules::Place;
 use rules::Table;
 ghost use mathlib.Core.Path.{_≡_};
+ghost use mathlib.Core.List.{map};
 ghost use Prim.Native.Nat.{_≤_};
 ghost use lib.ListN.{take, drop};
-ghost use Rattle.rules.specs.General.{every, everyTwo};
+ghost use Rattle.rules.specs.General.{every, everyTwo, those};
+ghost use Rattle.rules.specs.Places.{isOpen};
 ghost use Rattle.sound.specs.Digest.{isOther};
+ghost use Rattle.sound.specs.Seated.{associationOf};
 ghost use Rattle.rules.specs.Summary.{summarySound};
 ghost use Rattle.rules.specs.Soundness.{placesApart, sound};
 
@@ -101,17 +104,50 @@ pub fn is_sound(t: Table) -> bool
     each & keys_apart(places)
 }
 
+// The associations of the open places, one after the other, and how many there are.
+struct Named {
+    names: [u16; 16],
+    open: usize,
+}
+
+// With no more than this in it the loop is unrolled, and reads the places where they are: no table is copied for it.
+fn names_of(places: [Place; 16]) -> Named
+    ensures { λ r. ⌜ (r .open ≤ 16) × (take (r .open) (r .names) ≡ map associationOf (those isOpen places)) ⌝ }
+{
+    let mut names = [0; 16];
+    let mut open = 0;
+    let mut i = 0;
+    while i < 16 {
+        if places[i].mark == 1 {
+            names[open] = places[i].key.association;
+            open += 1;
+        }
+        i += 1;
+    }
+    Named { names, open }
+}
+
+// Whether a summary is sound beside a table.
+pub fn is_summed(t: Table, m: &[u64; rules::SUMMARY]) -> bool
+    ensures { λ r. ⌜ r ≡ summarySound (now (m .entry)) (t .places) ⌝ }
+{
+    let places = t.places;
+    let seen = names_of(places);
+    let names = seen.names;
+    sound_rows::is_sound(m, names, seen.open)
+}
+
 // Whether a table, and a summary beside it, is sound.
 pub struct Soundness {
     pub table: bool,
     pub summary: bool,
 }
 
-// Both in one call: a table that is handed on is copied.
+// Both in one call, for which the table is copied once more.
 pub fn are_sound(t: Table, m: &[u64; rules::SUMMARY]) -> Soundness
     ensures { λ r. ⌜ (r .table ≡ sound t) × (r .summary ≡ summarySound (now (m .entry)) (t .places)) ⌝ }
 {
-    let summary = summary::is_sound(m, t);
     let table = is_sound(t);
+    let summary = is_summed(t, m);
     Soundness { table, summary }
 }

@@ -18,7 +18,7 @@ use Rattle.sound_open.specs.Digest.{digest}
 use Rattle.sound_open.specs.Open.{soundIfOpen}
 
 -- one more behind the first n
-packed : {A : Type 0} (l : List A) (n : ℕ) (x : A) (r : List A) → n < length l → take n l ++ x ∷ r ≡ take (n + 1) (set l n x) ++ r
+pub packed : {A : Type 0} (l : List A) (n : ℕ) (x : A) (r : List A) → n < length l → take n l ++ x ∷ r ≡ take (n + 1) (set l n x) ++ r
 packed l n x r h = sym (append-assoc (take n l) (x ∷ []) r) ∙ ap (λ (s : List _). s ++ r) (sym (take-suc-set l n x h)) ∙ rw add-one
 
 -- what is seen of the places before number i: n digests, and whether each open one is sound

@@ -1,6 +1,1 @@
-pub mod Bits
-pub mod Counted
-pub mod Sound
-pub mod Packed
-pub mod Flags
 pub mod Losing

@@ -4,27 +4,24 @@ use borrow.Author.Needs.{needs}
 use Rattle.loopback.proofs.unfit.Statement.{statement}
 use Rattle.loopback.proofs.unfit.Tie as tie
 
-is-sound-requires : tie.Need-is-sound-requires
-is-sound-requires c κs = search needs
+are-sound-requires : tie.Need-are-sound-requires
+are-sound-requires c κs = search needs
 
 returns : tie.Need-returns
-returns c = simp (sym (c .before .is-sound .ensures) ∙ not-true _ (c .if1 .taken))
-
-is-sound-requires-2 : tie.Need-is-sound-requires-2
-is-sound-requires-2 c κs = search needs
+returns c = simp (sym (c .before .before .are-sound .ensures .1) ∙ not-true _ (c .if1 .taken))
 
 returns-2 : tie.Need-returns-2
 returns-2 c =
     let s = c .before .before in
-    simp (sym (s .before .is-sound .ensures) ∙ not-false _ (s .if1 .left), sym (c .before .is-sound2 .ensures) ∙ not-true _ (c .if2 .taken))
+    simp (sym (s .before .before .are-sound .ensures .1) ∙ not-false _ (s .if1 .left), sym (s .before .before .are-sound .ensures .0) ∙ not-true _ (c .if2 .taken))
 
 returns-3 : tie.Need-returns-3
 returns-3 c =
     let t = c .before in
     let s = t .before .before in
     simp (
-      sym (s .before .is-sound .ensures) ∙ not-false _ (s .if1 .left),
-      sym (t .before .is-sound2 .ensures) ∙ not-false _ (t .if2 .left),
+      sym (s .before .before .are-sound .ensures .1) ∙ not-false _ (s .if1 .left),
+      sym (s .before .before .are-sound .ensures .0) ∙ not-false _ (t .if2 .left),
       lt-ltb _ _ (c .if3 .taken),
     )
 
@@ -33,8 +30,8 @@ returns-4 c =
     let t = c .before .before in
     let s = t .before .before in
     simp (
-      sym (s .before .is-sound .ensures) ∙ not-false _ (s .if1 .left),
-      sym (t .before .is-sound2 .ensures) ∙ not-false _ (t .if2 .left),
+      sym (s .before .before .are-sound .ensures .1) ∙ not-false _ (s .if1 .left),
+      sym (s .before .before .are-sound .ensures .0) ∙ not-false _ (t .if2 .left),
       le-ltb _ _ (c .before .if3 .left),
       lt-ltb _ _ (c .if4 .taken),
     )
@@ -44,8 +41,8 @@ returns-5 c =
     let t = c .before .before .before in
     let s = t .before .before in
     simp (
-      sym (s .before .is-sound .ensures) ∙ not-false _ (s .if1 .left),
-      sym (t .before .is-sound2 .ensures) ∙ not-false _ (t .if2 .left),
+      sym (s .before .before .are-sound .ensures .1) ∙ not-false _ (s .if1 .left),
+      sym (s .before .before .are-sound .ensures .0) ∙ not-false _ (t .if2 .left),
       le-ltb _ _ (c .before .before .if3 .left),
       le-ltb _ _ (c .before .if4 .left),
       lt-ltb _ _ (c .if5 .taken),
@@ -60,8 +57,8 @@ returns-6 c =
     let t = e .before .before .before in
     let s = t .before .before in
     simp (
-      sym (s .before .is-sound .ensures) ∙ not-false _ (s .if1 .left),
-      sym (t .before .is-sound2 .ensures) ∙ not-false _ (t .if2 .left),
+      sym (s .before .before .are-sound .ensures .1) ∙ not-false _ (s .if1 .left),
+      sym (s .before .before .are-sound .ensures .0) ∙ not-false _ (t .if2 .left),
       le-ltb _ _ (e .before .before .if3 .left),
       le-ltb _ _ (e .before .if4 .left),
       le-ltb _ _ (e .if5 .left),
@@ -78,8 +75,8 @@ returns-7 c =
     let t = e .before .before .before in
     let s = t .before .before in
     simp (
-      sym (s .before .is-sound .ensures) ∙ not-false _ (s .if1 .left),
-      sym (t .before .is-sound2 .ensures) ∙ not-false _ (t .if2 .left),
+      sym (s .before .before .are-sound .ensures .1) ∙ not-false _ (s .if1 .left),
+      sym (s .before .before .are-sound .ensures .0) ∙ not-false _ (t .if2 .left),
       le-ltb _ _ (e .before .before .if3 .left),
       le-ltb _ _ (e .before .if4 .left),
       le-ltb _ _ (e .if5 .left),
@@ -91,9 +88,8 @@ pub unfit-spec : {M : Type 1} → statement M
 unfit-spec =
     tie.close
     (tie.spec
-    is-sound-requires
+    are-sound-requires
     returns
-    is-sound-requires-2
     returns-2
     returns-3
     returns-4

@@ -10,8 +10,11 @@ use borrow.Author.Needs.{needs}
 use Rattle.receive_segment.proofs.segment.Statement.{statement}
 use Rattle.receive_segment.proofs.segment.Tie as tie
 
-are-sound-requires : tie.Need-are-sound-requires
-are-sound-requires c κs = search needs
+is-sound-requires : tie.Need-is-sound-requires
+is-sound-requires c κs = search needs
+
+is-summed-requires : tie.Need-is-summed-requires
+is-summed-requires c κs = search needs
 
 seek-requires : tie.Need-seek-requires
 seek-requires c κs = search needs
@@ -41,9 +44,9 @@ returns c =
     let j = l .before in
     let k = j .before .before in
     let u = k .before in
-    let a = u .before .before .before .before .before .args in
+    let a = u .before .before .before .before .before .before .args in
     let weighs = rw (l .tail .ensures) at (n .count .ensures) in
-    let is = refused-is (a .t) (now (a .m)) (now (a .store)) (now (a .report)) (a .association) (now (a .s)) (u .are-sound .result .summary) (u .are-sound .ensures .1) (k .seek .result .search .at) (k .seek .result .key) (j .judge .result) (j .judge .ensures) (n .count .result) weighs (c .before .if1 .taken) in
+    let is = refused-is (a .t) (now (a .m)) (now (a .store)) (now (a .report)) (a .association) (now (a .s)) (u .is-summed .result) (u .is-summed .ensures) (k .seek .result .search .at) (k .seek .result .key) (j .judge .result) (j .judge .ensures) (n .count .result) weighs (c .before .if1 .taken) in
     record {
       answered = c .refusal .ensures ∙ ap (λ (o : Counted Reception). o .call .answer) (sym is);
       summed = ap (λ (o : Counted Reception). o .summary) (sym is);
@@ -96,11 +99,11 @@ returns-2 c =
     let j = l .before in
     let k = j .before .before in
     let u = k .before in
-    let a = u .before .before .before .before .before .args in
+    let a = u .before .before .before .before .before .before .args in
     let z = n .count .ensures .taken (e .if1 .left) in
     let weighs = rw (l .tail .ensures) at (n .count .ensures) in
-    let is = taken-is (a .t) (now (a .m)) (now (a .store)) (now (a .report)) (a .association) (now (a .s)) (u .are-sound .result .summary) (u .are-sound .ensures .1) (k .seek .result .search .at) (k .seek .result .key) (j .judge .result) (j .judge .ensures) (n .count .result) weighs (e .if1 .left) in
-    let sums = sums-same (a .t) (now (a .m)) (now (a .store)) (now (a .report)) (a .association) (now (a .s)) (u .are-sound .result .summary) (u .are-sound .ensures .1) (k .seek .result .search .at) (k .seek .result .key) (j .judge .result) (j .judge .ensures) (n .count .result) weighs (z .1) in
+    let is = taken-is (a .t) (now (a .m)) (now (a .store)) (now (a .report)) (a .association) (now (a .s)) (u .is-summed .result) (u .is-summed .ensures) (k .seek .result .search .at) (k .seek .result .key) (j .judge .result) (j .judge .ensures) (n .count .result) weighs (e .if1 .left) in
+    let sums = sums-same (a .t) (now (a .m)) (now (a .store)) (now (a .report)) (a .association) (now (a .s)) (u .is-summed .result) (u .is-summed .ensures) (k .seek .result .search .at) (k .seek .result .key) (j .judge .result) (j .judge .ensures) (n .count .result) weighs (z .1) in
     let leads = j .judge .ensures .leads _ _ refl refl in
     record {
       answered = c .received .ensures ∙ leads .answered ∙ ap (λ (o : Counted Reception). o .call .answer) (sym is);
@@ -113,7 +116,8 @@ pub segment-spec : {M : Type 1} → statement M
 segment-spec =
     tie.close
     (tie.spec
-    are-sound-requires
+    is-sound-requires
+    is-summed-requires
     seek-requires
     mul-held
     element-copy-out-held

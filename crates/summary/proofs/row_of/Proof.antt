@@ -1,7 +1,9 @@
 use Prim.Native.Nat.{_-_, _≤_}
 use mathlib.Core.Path.{_≡_, refl, sym, _∙_}
+use mathlib.Core.Bool.{and-comm}
 use native.Mathlib.Omega.{arith}
-use Rattle.rules.specs.Summary.{rowCount, firstBelow, isFor}
+use lib.Dec.{eqb}
+use Rattle.rules.specs.Summary.{rowCount, firstBelow, numberAt, isUsed, isFor}
 use Rattle.rules.specs.declared.Found.the-variants.{Nothing}
 use Rattle.rules.proofs.Rows.{row-count, row-of-within}
 use Rattle.rules.proofs.Below.{first-at, first-more}
@@ -39,7 +41,7 @@ returns : tie.Need-returns Inv-loop μ-loop
 returns c =
     let l = c .before .before .before .before in
     let a = l .before .args in
-    let found = first-at (isFor (a .m .now) (a .association)) rowCount (l .loop .i) (l .loop .inv .1) (c .if1 .taken) (omega (arith, row-count)) in
+    let found = first-at (isFor (a .m .now) (a .association)) rowCount (l .loop .i) (l .loop .inv .1) (and-comm (isUsed (a .m .now) (l .loop .i)) (eqb (numberAt (a .m .now) 1 (l .loop .i)) (a .association)) ∙ c .if1 .taken) (omega (arith, row-count)) in
     (sym found, λ k e. row-of-within (a .m .now) (a .association) k (found ∙ e))
 
 add-i : tie.Need-add-i Inv-loop μ-loop
@@ -52,7 +54,7 @@ loop-again : tie.Need-loop-again Inv-loop μ-loop
 loop-again c =
     let l = c .before .before .before .before in
     let a = l .before .args in
-    (omega arith, first-more (isFor (a .m .now) (a .association)) (l .loop .i) (l .loop .inv .1) (c .if1 .left))
+    (omega arith, first-more (isFor (a .m .now) (a .association)) (l .loop .i) (l .loop .inv .1) (and-comm (isUsed (a .m .now) (l .loop .i)) (eqb (numberAt (a .m .now) 1 (l .loop .i)) (a .association)) ∙ c .if1 .left))
 
 returns-2 : tie.Need-returns-2 Inv-loop μ-loop
 returns-2 c =
