@@ -1,3 +1,1 @@
 pub mod Sweeping
-pub mod Judging
-pub mod Losing

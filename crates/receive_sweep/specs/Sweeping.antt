@@ -3,12 +3,9 @@ use Prim.Native.Nat.{ℕ}
 use mathlib.Core.Bool.{Bool}
 use mathlib.Core.List.{List, map}
 use Rattle.rules.specs.General.{those}
-use Rattle.rules.specs.Refusals.{judged}
-use Rattle.rules.specs.Sweep.{Sweeping, lossOf, isDue, isOf, sweep, unswept}
-use Rattle.rules.specs.Summary.{Counted, counting, totalChecks, sweepSums}
+use Rattle.rules.specs.Sweep.{Sweeping, lossOf, isDue, isOf, sweep}
 use Rattle.rules.specs.declared.Place.{Place}
 use Rattle.rules.specs.declared.Record.{Record}
-use Rattle.rules.specs.declared.Swept.{Swept}
 use Rattle.rules.specs.declared.Table.{Table}
 use Rattle.receive_sweep.specs.declared.Test.{Test}
 use Rattle.receive_sweep.specs.declared.Test.the-variants.{Aged, Of}
@@ -27,18 +24,3 @@ losses which ps = map (lossOf (causeOf which)) (those (testOf which) ps)
 
 abbrev pub sweptBy : Test → ℕ → Table → List ℕ → Sweeping
 sweptBy which time t report = sweep (testOf which) (causeOf which) time t report
-
--- with the summary, where only its totals are left to judge
-abbrev pub sweptWith : Test → ℕ → Table → List ℕ → List ℕ → Counted Sweeping
-sweptWith which time t m report =
-    judged (totalChecks m (sweepSums m (sweptBy which time t report))) (λ n. counting m (unswept t report n))
-    (counting (sweepSums m (sweptBy which time t report)) (sweptBy which time t report))
-
--- the answer where nothing is lost
-abbrev pub passedAt : ℕ → Table → Swept
-passedAt time t =
-    record {
-      table = record { places = t .places; registry = t .registry; timer = t .timer; clock = time };
-      refusal = 0;
-      records = 0;
-    }

@@ -4,10 +4,10 @@
 pub use receive_segment::segment;
 
 // The clock goes on, and every sequence that has grown too old is lost.
-pub use receive_sweep::clock;
+pub use receive_clock::clock;
 
 // Every sequence of an association is lost.
-pub use receive_sweep::release;
+pub use receive_clock::release;
 
 // What a segment delivered: a part of its octets or a part of the store, according to its decision.
 pub use receive_delivery::delivery;

@@ -3,12 +3,12 @@ use mathlib.Core.Path.{sym, _∙_}
 use native.Mathlib.Omega.{arith}
 use Rattle.rules.specs.Numbers.{elapsed}
 use borrow.Author.Tests.{eq-eqb, ne-eqb, le-leb, lt-leb, not-true}
 use Rattle.receive_sweep.specs.declared.Test.the-variants.{Aged}
-use Rattle.receive_sweep.proofs.Judging.{clock-is}
-use Rattle.receive_sweep.proofs.Losing.{none-is}
+use Rattle.receive_clock.proofs.Judging.{clock-is}
+use Rattle.receive_clock.proofs.Losing.{none-is}
 use borrow.Author.Needs.{needs}
-use Rattle.receive_sweep.proofs.clock.Statement.{statement}
-use Rattle.receive_sweep.proofs.clock.Tie as tie
+use Rattle.receive_clock.proofs.clock.Statement.{statement}
+use Rattle.receive_clock.proofs.clock.Tie as tie
 
 is-sound-requires : tie.Need-is-sound-requires
 is-sound-requires c κs = search needs

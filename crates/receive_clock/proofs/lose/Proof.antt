@@ -1,8 +1,8 @@
 use borrow.Author.Tests.{not-true, not-false}
-use Rattle.receive_sweep.proofs.Losing.{swept-is}
+use Rattle.receive_clock.proofs.Losing.{swept-is}
 use borrow.Author.Needs.{needs}
-use Rattle.receive_sweep.proofs.lose.Statement.{statement}
-use Rattle.receive_sweep.proofs.lose.Tie as tie
+use Rattle.receive_clock.proofs.lose.Statement.{statement}
+use Rattle.receive_clock.proofs.lose.Tie as tie
 
 billed-requires : tie.Need-billed-requires
 billed-requires c κs = search needs

@@ -5,9 +5,9 @@ use native.Mathlib.Omega.{arith}
 use borrow.Author.Needs.{needs}
 use borrow.Author.Tests.{not-true, not-false}
 use lib.ListN.{length-map}
-use Rattle.receive_sweep.proofs.Losing.{Billing, turn-fails, turn-fits, all-fit, all-billed}
-use Rattle.receive_sweep.proofs.billed.Statement.{statement}
-use Rattle.receive_sweep.proofs.billed.Tie as tie
+use Rattle.receive_clock.proofs.Losing.{Billing, turn-fails, turn-fits, all-fit, all-billed}
+use Rattle.receive_clock.proofs.billed.Statement.{statement}
+use Rattle.receive_clock.proofs.billed.Tie as tie
 
 abbrev Inv-loop : tie.InvT-loop
 Inv-loop which m₀ t i₀ m i = Billing which (t .places) m₀ i m

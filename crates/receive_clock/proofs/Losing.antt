@@ -20,8 +20,9 @@ use Rattle.rules.proofs.Lists.{left}
 use Rattle.rules.proofs.Fitting.{fits-chain, fits-same, billed-grows, length-billed}
 use Rattle.summary.specs.Losses.{lossIn}
 use Rattle.summary.proofs.Losing.{bill-loss-in}
-use Rattle.receive_sweep.specs.Sweeping.{testOf, causeOf, losses, sweptBy, sweptWith, passedAt}
+use Rattle.receive_sweep.specs.Sweeping.{testOf, causeOf, losses, sweptBy}
+use Rattle.receive_clock.specs.Clocking.{sweptWith, passedAt}
 use Rattle.receive_sweep.specs.declared.Test.{Test}
 
 billed-append : (m : List ℕ) (xs ys : List Record) → billed m (xs ++ ys) ≡ billed (billed m xs) ys
 billed-append m [] ys = refl

@@ -13,8 +13,9 @@ use Rattle.rules.specs.Sweep.{Sweeping, unswept, reportLeast, stepChecks, clock
 use Rattle.rules.specs.Summary.{Counted, counting, summarySound, summaryChecks, totalChecks, sweepSums, clockWith, releaseWith}
 use Rattle.rules.proofs.Refusals.{judged-append}
 use Rattle.rules.specs.declared.Table.{Table}
-use Rattle.receive_sweep.specs.Sweeping.{sweptBy, sweptWith}
+use Rattle.receive_sweep.specs.Sweeping.{sweptBy}
+use Rattle.receive_clock.specs.Clocking.{sweptWith}
 use Rattle.receive_sweep.specs.declared.Test.the-variants.{Aged, Of}
 
 module _ (t : Table) (m report : List ℕ) {isSound summed : Bool} (g : isSound ≡ sound t) (h : summed ≡ summarySound m (t .places)) {n : ℕ}
     (e : n ≡ first (1 when not (isSound && summed) ∷ 3 when ltb (length report) reportLeast ∷ [])) where

@@ -1,9 +1,9 @@
 use mathlib.Core.Path.{sym, _∙_}
 use Rattle.rules.proofs.Fitting.{fits-same}
-use Rattle.receive_sweep.proofs.Losing.{bill-one, bill-none}
+use Rattle.receive_clock.proofs.Losing.{bill-one, bill-none}
 use borrow.Author.Needs.{needs}
-use Rattle.receive_sweep.proofs.bill_due.Statement.{statement}
-use Rattle.receive_sweep.proofs.bill_due.Tie as tie
+use Rattle.receive_clock.proofs.bill_due.Statement.{statement}
+use Rattle.receive_clock.proofs.bill_due.Tie as tie
 
 is-due-requires : tie.Need-is-due-requires
 is-due-requires c κs = search needs

@@ -1,11 +1,11 @@
 use mathlib.Core.Path.{sym, _∙_}
 use borrow.Author.Tests.{eq-eqb, ne-eqb, not-true}
 use Rattle.receive_sweep.specs.declared.Test.the-variants.{Of}
-use Rattle.receive_sweep.proofs.Judging.{release-is}
-use Rattle.receive_sweep.proofs.Losing.{none-is}
+use Rattle.receive_clock.proofs.Judging.{release-is}
+use Rattle.receive_clock.proofs.Losing.{none-is}
 use borrow.Author.Needs.{needs}
-use Rattle.receive_sweep.proofs.release.Statement.{statement}
-use Rattle.receive_sweep.proofs.release.Tie as tie
+use Rattle.receive_clock.proofs.release.Statement.{statement}
+use Rattle.receive_clock.proofs.release.Tie as tie
 
 is-sound-requires : tie.Need-is-sound-requires
 is-sound-requires c κs = search needs

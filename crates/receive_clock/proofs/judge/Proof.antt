@@ -3,8 +3,8 @@ use Rattle.rules.specs.Sweep.{reportLeast}
 use native.Mathlib.Omega.{arith}
 use lib.ListN.{length}
 use borrow.Author.Needs.{needs}
-use Rattle.receive_sweep.proofs.judge.Statement.{statement}
-use Rattle.receive_sweep.proofs.judge.Tie as tie
+use Rattle.receive_clock.proofs.judge.Statement.{statement}
+use Rattle.receive_clock.proofs.judge.Tie as tie
 
 returns : tie.Need-returns
 returns c = search needs
