@@ -4,18 +4,19 @@ use mathlib.Core.Logic.{⊎-elim}
 use borrow.Author.Tests.{eq-eqb, ne-eqb}
 use lib.ListN.{length}
 use native.Mathlib.Omega.{arith}
-use Rattle.sound.proofs.Seated.{Noted, note-open, note-other, noted-all}
+use Rattle.sound_open.proofs.Digest.{Noted, note-open, note-other, noted-all}
+use Rattle.sound.specs.Seated.{associationOf}
 use Rattle.sound.proofs.names_of.Statement.{statement}
 use Rattle.sound.proofs.names_of.Tie as tie
 
 abbrev Inv-loop : tie.InvT-loop
-Inv-loop places names₀ open₀ i₀ names «open» i = Noted places names «open» i
+Inv-loop places names₀ open₀ i₀ names «open» i = (Noted associationOf places names «open» i) × ((«open» ≤ i) × (i ≤ 16))
 
 abbrev μ-loop : tie.MeasureT-loop
 μ-loop places names₀ open₀ i₀ names «open» i = 16 - i
 
 loop-holds : tie.Need-loop-holds Inv-loop μ-loop
-loop-holds c = record { told = refl; sixteen = refl; few = omega arith; within = omega arith }
+loop-holds c = (record { told = refl; sixteen = refl }, (omega arith, omega arith))
 
 mul-if1 : tie.Need-mul-if1 Inv-loop μ-loop
 mul-if1 c = omega arith
@@ -49,8 +50,8 @@ loop-again : tie.Need-loop-again Inv-loop μ-loop
 loop-again c =
     let l = c .before .before in
     ⊎-elim
-    (λ w. rw (w .1, w .2) (note-open (l .loop .inv) (omega arith) (omega arith) (eq-eqb _ _ (w .0 .taken))))
-    (λ w. rw (w .1, w .2) (note-other (l .loop .inv) (omega arith) (omega arith) (ne-eqb _ _ (w .0 .left))))
+    (λ w. rw (w .1, w .2) (note-open (l .loop .inv .0) (omega arith) (omega arith) (eq-eqb _ _ (w .0 .taken)) _ refl, (omega arith, omega arith)))
+    (λ w. rw (w .1, w .2) (note-other (l .loop .inv .0) (omega arith) (ne-eqb _ _ (w .0 .left)), (omega arith, omega arith)))
     (c .if1 .came)
 
 returns : tie.Need-returns Inv-loop μ-loop
@@ -58,7 +59,7 @@ returns c =
     let l = c .before in
     let inv = l .loop .inv in
     let end : length (l .before .args .t1) ≤ l .loop .i = omega arith in
-    (omega (arith, inv .few, inv .within), noted-all inv end)
+    (omega arith, noted-all (inv .0) end)
 
 pub names-of-spec : {M : Type 1} → statement M
 names-of-spec =

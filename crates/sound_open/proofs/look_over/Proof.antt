@@ -5,7 +5,7 @@ use borrow.Author.Tests.{eq-eqb, ne-eqb}
 use lib.ListN.{length}
 use native.Mathlib.Omega.{arith}
 use borrow.Author.Needs.{needs}
-use Rattle.sound_open.proofs.Digest.{SoFar, seen-open, seen-other, seen-sound, seen-all}
+use Rattle.sound_open.proofs.Digest.{SoFar, seen-open, seen-other, seen-sound, noted-all}
 use Rattle.sound_open.proofs.look_over.Statement.{statement}
 use Rattle.sound_open.proofs.look_over.Tie as tie
 
@@ -16,7 +16,7 @@ abbrev μ-loop : tie.MeasureT-loop
 μ-loop registry timer clock places digests₀ sound₀ open₀ i₀ digests sound «open» i = 16 - i
 
 loop-holds : tie.Need-loop-holds Inv-loop μ-loop
-loop-holds c = record { each = refl; told = refl; sixteen = refl; few = omega arith; within = omega arith }
+loop-holds c = record { each = refl; digested = record { told = refl; sixteen = refl }; few = omega arith; within = omega arith }
 
 mul-if1 : tie.Need-mul-if1 Inv-loop μ-loop
 mul-if1 c = omega arith
@@ -72,7 +72,7 @@ returns c =
     let a = l .before .args in
     let end : length (a .t1) ≤ l .loop .i = omega arith in (
       seen-sound (a .registry) (a .timer) (a .clock) (a .t1) _ _ _ (l .loop .i) (l .loop .inv) end,
-      (omega (arith, l .loop .inv .few, l .loop .inv .within), seen-all (a .registry) (a .timer) (a .clock) (a .t1) _ _ _ (l .loop .i) (l .loop .inv) end),
+      (omega (arith, l .loop .inv .few, l .loop .inv .within), noted-all (l .loop .inv .digested) end),
     )
 
 pub look-over-spec : {M : Type 1} → statement M
