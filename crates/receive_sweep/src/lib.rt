@@ -89,7 +89,7 @@ pub fn swept(t: Table, report: &mut [u8], time: u32, which: Test) -> Swept
     }
 }
 
-// Whether a sweep loses anything. It is asked before `lose` is called, so that a call that loses nothing copies the table but for its answer.
+// Whether a sweep loses anything. Where it does not, a call need not copy the table but for its answer.
 pub fn any_due(t: Table, which: Test) -> bool
     ensures { λ r. ⌜ r ≡ isAt (firstFrom (testOf which) (t .places) 0) ⌝ }
 {
