@@ -47,6 +47,10 @@ def program_of(words):
     return "records" if words[0] == "explain" else words[0]
 
 
+# A shell that starts this in the background has it ignore interruptions, and so would all that is started here.
+signal.signal(signal.SIGINT, signal.default_int_handler)
+
+
 class Folder(unittest.TestCase):
     def setUp(self):
         place = tempfile.TemporaryDirectory()
