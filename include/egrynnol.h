@@ -199,12 +199,16 @@ enum egrynnol_refusal {
  * The host holds it and hands it on; it has no need to look inside. Structs have
  * octets that belong to no field: do not compare tables with memcmp. */
 
+typedef struct egrynnol_address {
+    uint8_t octets[EGRYNNOL_ADDRESS]; /* zero filled */
+    uint8_t length;
+} egrynnol_address;
+
 typedef struct egrynnol_key {
-    uint8_t address[EGRYNNOL_ADDRESS]; /* originating address, zero filled */
     uint16_t association;
     uint16_t context;
+    egrynnol_address origin;
     uint8_t reference;
-    uint8_t length;             /* of the originating address */
 } egrynnol_key;
 
 typedef struct egrynnol_place {
@@ -455,10 +459,11 @@ egrynnol_sent egrynnol_sending(egrynnol_table table, egrynnol_request request,
 
 EGRYNNOL_CHECK(lp64_target_needed, sizeof(size_t) == 8 && sizeof(long) == 8 && sizeof(void *) == 8);
 
+EGRYNNOL_CHECK(address, sizeof(egrynnol_address) == 21
+               && offsetof(egrynnol_address, octets) == 0 && offsetof(egrynnol_address, length) == 20);
 EGRYNNOL_CHECK(key, sizeof(egrynnol_key) == 26
-               && offsetof(egrynnol_key, address) == 0 && offsetof(egrynnol_key, association) == 20
-               && offsetof(egrynnol_key, context) == 22 && offsetof(egrynnol_key, reference) == 24
-               && offsetof(egrynnol_key, length) == 25);
+               && offsetof(egrynnol_key, association) == 0 && offsetof(egrynnol_key, context) == 2
+               && offsetof(egrynnol_key, origin) == 4 && offsetof(egrynnol_key, reference) == 25);
 EGRYNNOL_CHECK(place, sizeof(egrynnol_place) == 36
                && offsetof(egrynnol_place, key) == 0 && offsetof(egrynnol_place, octets) == 26
                && offsetof(egrynnol_place, start) == 28 && offsetof(egrynnol_place, mark) == 32

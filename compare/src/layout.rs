@@ -6,9 +6,9 @@ use std::mem::{offset_of, size_of};
 use model::*;
 
 const _: () = {
-    assert!(size_of::<Key>() == 26 && offset_of!(Key, length) == 25);
-    assert!(offset_of!(Key, association) == 20 && offset_of!(Key, context) == 22);
-    assert!(offset_of!(Key, reference) == 24);
+    assert!(size_of::<Key>() == 26 && offset_of!(Key, length) == 24);
+    assert!(offset_of!(Key, address) == 4 && offset_of!(Key, context) == 2);
+    assert!(offset_of!(Key, reference) == 25);
     assert!(size_of::<Place>() == 36 && offset_of!(Place, segments) == 35);
     assert!(offset_of!(Place, octets) == 26 && offset_of!(Place, start) == 28);
     assert!(offset_of!(Place, mark) == 32 && offset_of!(Place, instruction) == 33);

@@ -46,11 +46,11 @@ pub trait Shape {
 impl Shape for Key {
     fn read(fields: &mut Fields) -> Self {
         Key {
-            address: fields.take(),
             association: fields.short(),
             context: fields.short(),
-            reference: fields.octet(),
+            address: fields.take(),
             length: fields.octet(),
+            reference: fields.octet(),
         }
     }
 }

@@ -35,11 +35,11 @@ pub const TOTALS: [&str; 6] = [
 #[repr(C)]
 #[derive(Clone, Copy, Debug, Default, PartialEq, Eq)]
 pub struct Key {
-    pub address: [u8; ADDRESS],
     pub association: u16,
     pub context: u16,
-    pub reference: u8,
+    pub address: [u8; ADDRESS],
     pub length: u8,
+    pub reference: u8,
 }
 
 #[repr(C)]

@@ -6,9 +6,9 @@ use mathlib.Core.List.{List, [], _∷_, _++_}
 use native.Mathlib.Omega.{arith}
 use borrow.Author.Tests.{ltb-false, leb-false, not-true}
 use lib.Dec.{leb, ltb}
-use lib.ListN.{length, take, drop, length-take}
+use lib.ListN.{length}
 use Rattle.rules.specs.General.{if_then_else_}
-use Rattle.rules.specs.Numbers.{parameterMost, addressMost, elapsed}
+use Rattle.rules.specs.Numbers.{parameterMost, elapsed}
 use Rattle.rules.specs.Refusals.{Check, _when_, accepted}
 use Rattle.rules.specs.Registry.{kindOf}
 use Rattle.rules.specs.Layout.{octet, contextOf, has1a, has3a, isUnsegmented, isNew, remainingOf, at2, at3, originAt, fieldsOf, lastChecks, contextChecks, sequenceChecks, addressesChecks, readingChecks}
@@ -18,8 +18,8 @@ use Rattle.rules.specs.Sweep.{reportLeast, clockChecks, releaseChecks}
 use Rattle.rules.specs.declared.Entry.{Entry}
 use Rattle.rules.specs.declared.Table.{Table}
 use Rattle.rules.proofs.Refusals.{accepted-both}
-use Rattle.rules.proofs.Reading.{address-short}
-use Rattle.demands.proofs.Arriving.{filled-length}
+use Rattle.rules.proofs.Reading.{origin-short}
+use Rattle.rules.proofs.Records.{filled-at}
 use Rattle.demands.proofs.Settling.{KeyFits}
 
 abbrev seven : List ℕ → ℕ → Check
@@ -57,14 +57,11 @@ module _ (registry : List Entry) (s : List ℕ) where
     unfolding fieldsOf
     key-fits association h =
         record {
-          address = filled-length (take (fieldsOf registry s .length) (drop (fieldsOf registry s .origin) s)) (short (fieldsOf registry s .length) _ (address-short registry s e));
+          origin = filled-at s (fieldsOf registry s .origin) (origin-short registry s e);
           association = h;
           context = range (has1a s);
         }
       where
-        short : (n : ℕ) (l : List ℕ) → n ≤ addressMost → length (take n l) ≤ addressMost
-        short n l g = simp length-take (omega arith)
-
         range : (b : Bool) → (if b then octet s 0 % 128 + 128 * (octet s 1 % 128) else octet s 0 % 128) < 2 ^ 16
         range true = omega arith
         range false = omega arith

@@ -14,7 +14,7 @@ use Rattle.rules.specs.General.{if_then_else_}
 use Rattle.rules.specs.Numbers.{storeLeast, placeStart, addressMost}
 use Rattle.rules.specs.Refusals.{Check, accepted}
 use Rattle.rules.specs.Layout.{isUnsegmented, fieldsOf, readingChecks}
-use Rattle.rules.specs.Records.{recordLength, zeroFilled, recordOctets, recordsOctets}
+use Rattle.rules.specs.Records.{recordLength, addressOf, Filled, recordOctets, recordsOctets}
 use Rattle.rules.specs.Places.{noPlace, holds, placeOf, lowestFree, isAt, placeAt}
 use Rattle.rules.specs.Soundness.{sound}
 use Rattle.rules.specs.Receiving.{keyOf, lineOf, lineAt, isStart, effectOf, saveAt, receptionOf, receivedAt, Reception, lentChecks, segmentChecks}
@@ -58,22 +58,21 @@ line-later before saved g n nine new follows fits =
 
 abbrev pub keyFor : ℕ → Heading → List ℕ → Key
 keyFor association g o =
-    record { address = zeroFilled o; association = association; context = g .context; reference = g .reference; length = length o }
+    record { association = association; context = g .context; origin = addressOf o; reference = g .reference }
 
 module _ (t : Table) (store report : List ℕ) (association : ℕ) (s : List ℕ) (g : Heading) (o d info : List ℕ) (read : ReadsBack (t .registry) s g o d info)
     (good : sound t ≡ true) (long : storeLeast ≤ length store) (ample : recordLength ≤ length report) where
   abbrev pub fields : Fields
   fields =
-      record { heading = g; origin = fieldsOf (t .registry) s .origin; length = fieldsOf (t .registry) s .length; information = fieldsOf (t .registry) s .information }
+      record { heading = g; origin = fieldsOf (t .registry) s .origin; information = fieldsOf (t .registry) s .information }
 
   key-is : keyOf association s (fieldsOf (t .registry) s) ≡ keyFor association g o
   key-is =
       λ i. record {
-        address = zeroFilled (read .origin i);
         association = association;
         context = read .heading i .context;
+        origin = read .origin i;
         reference = read .heading i .reference;
-        length = read .length i;
       }
 
   abbrev at : Key → Heading → List ℕ → Line
@@ -83,7 +82,7 @@ module _ (t : Table) (store report : List ℕ) (association : ℕ) (s : List ℕ
   did k h l =
       receptionOf t report
       (effectOf (at k h l) t store k
-      (record { heading = h; origin = fieldsOf (t .registry) s .origin; length = fieldsOf (t .registry) s .length; information = fieldsOf (t .registry) s .information })
+      (record { heading = h; origin = fieldsOf (t .registry) s .origin; information = fieldsOf (t .registry) s .information })
       l (placeOf k (t .places)) (placeAt (t .places) (placeOf k (t .places))) (lowestFree (t .places)))
 
   received-is : receivedAt t store report association s ≡ did (keyFor association g o) g info
@@ -157,13 +156,10 @@ mine-kept k ps m q store at saved info inside before yours e held fits =
 
 -- its record is read in the report area, and what it delivers in the store
 
-pub filled-length : (o : List ℕ) → length o ≤ addressMost → length (zeroFilled o) ≡ addressMost
-filled-length o h = length-append o (replicate (addressMost - length o) 0) ∙ rw length-replicate (omega arith)
-
-pub one-reported : (r : Record) (report : List ℕ) → length (r .key .address) ≡ addressMost → recordLength ≤ length report
+pub one-reported : (r : Record) (report : List ℕ) → Filled (r .key .origin) → recordLength ≤ length report
     → take recordLength (splice report 0 (recordsOctets (r ∷ []))) ≡ recordOctets r
-one-reported r report address ample =
-    let l = record-length r address in
+one-reported r report origin ample =
+    let l = record-length r origin in
     let same : recordsOctets (r ∷ []) ≡ recordOctets r = append-nil (recordOctets r) in
     rw same (rw l at (splice-back report 0 (recordOctets r) (omega arith)))
 

@@ -11,9 +11,9 @@ use Rattle.rules.specs.General.{if_then_else_, every, those}
 use Rattle.rules.specs.Numbers.{elapsed, storeLeast, placeCount, addressMost}
 use Rattle.rules.specs.Refusals.{Check, accepted}
 use Rattle.rules.specs.Layout.{fieldsOf, readingChecks, parameterOctets}
-use Rattle.rules.specs.Records.{recordOctets, recordFrom, recordLength}
-use Rattle.rules.specs.Places.{sameKey, isFree, placeOf, lowestFree, freePlace}
-use Rattle.rules.specs.Soundness.{openSound, freeSound, sound}
+use Rattle.rules.specs.Records.{addressOf, recordOctets, recordFrom, recordLength}
+use Rattle.rules.specs.Places.{sameAddress, sameKey, isFree, placeOf, lowestFree, freePlace}
+use Rattle.rules.specs.Soundness.{addressSound, openSound, freeSound, sound}
 use Rattle.rules.specs.Receiving.{lineOf, effectOf, segmentChecks}
 use Rattle.rules.specs.Sweep.{sweep, isDue, clockChecks, releaseChecks, reportLeast}
 use Rattle.rules.specs.Summary.{summaryLength, rowCount, totalCount, summarySound, fits, segmentSums, segmentChecksWith, segmentWith, clockChecksWith, clockWith, releaseChecksWith, releaseWith, emptySummary}
@@ -121,7 +121,7 @@ all = replicate reportLeast 0
 
 -- keys of context 3 at association 9
 abbrev keyWith : ℕ → Key
-keyWith reference = record { address = replicate 20 0; association = 9; context = record { 0 = 3 }; reference = record { 0 = reference }; length = 0 }
+keyWith reference = record { association = 9; context = record { 0 = 3 }; origin = addressOf []; reference = record { 0 = reference } }
 
 -- an unsegmented parameter with one octet
 abbrev alone : List ℕ
@@ -171,7 +171,7 @@ abbrev from07 : List ℕ
 from07 = 0x84 ∷ 0x80 ∷ 0x41 ∷ 0x85 ∷ 0x01 ∷ 0x07 ∷ 0x00 ∷ 0xBB ∷ []
 
 abbrev key07 : Key
-key07 = record { address = 7 ∷ replicate 19 0; association = 9; context = record { 0 = 4 }; reference = record { 0 = 5 }; length = 1 }
+key07 = record { association = 9; context = record { 0 = 4 }; origin = addressOf (7 ∷ []); reference = record { 0 = 5 } }
 
 -- what a demand says of calls after an opening at a time, after one at 0, and of segments that arrive after that one
 abbrev told : Machine → ℕ → Told
@@ -208,7 +208,7 @@ unfolding rowCount totalCount emptySummary summarySound fits
 summing = tt
 
 computing : Unit {0}
-unfolding ruling summing sound openSound freeSound readingChecks fieldsOf sameKey lineOf effectOf elapsed splice recordOctets recordFrom deedsOf after covers EachIn held
+unfolding ruling summing sound openSound freeSound readingChecks fieldsOf sameAddress sameKey addressSound lineOf effectOf elapsed splice recordOctets recordFrom deedsOf after covers EachIn held
 computing = tt
 
 -- an octet of a list and of the area that was sent to, and a number of a list's first element
@@ -277,7 +277,7 @@ unfolding computing
 ready whole =
     record {
       sound = refl;
-      typed = record { count = refl; each = all-replicate TypedPlace freePlace (record { address = refl; association = omega arith }) placeCount };
+      typed = record { count = refl; each = all-replicate TypedPlace freePlace (record { origin = refl; association = omega arith }) placeCount };
       kind = refl;
       store = omega (arith, length-replicate {A = ℕ} storeLeast 0);
       summary = record { size = refl; sound = refl };
@@ -523,12 +523,10 @@ rejects-subtractsPlainly d =
 free-typed : OfPlace freePlace
 free-typed =
     record {
-      size = refl;
-      address = all-replicate (Bits 8) 0 (omega arith) addressMost;
+      origin = record { size = refl; octets = all-replicate (Bits 8) 0 (omega arith) addressMost; length = omega arith };
       association = omega arith;
       context = omega arith;
       reference = omega arith;
-      length = omega arith;
       octets = omega arith;
       start = omega arith;
       mark = omega arith;

@@ -48,7 +48,8 @@ use Rattle.demands.proofs.Spared.{Kept, clash, first-at}
 use Rattle.demands.proofs.Typed.{typed-kept}
 use Rattle.demands.proofs.Sound.{kept as sound-kept}
 use Rattle.demands.proofs.Sparing.{spared, registry-kept, store-kept}
-use Rattle.demands.proofs.Arriving.{line-alone, line-new, line-later, arrives, joined-back, mine-kept, filled-length, one-reported, place-delivers}
+use Rattle.rules.proofs.Records.{filled-of}
+use Rattle.demands.proofs.Arriving.{line-alone, line-new, line-later, arrives, joined-back, mine-kept, one-reported, place-delivers}
 
 -- a part of a parameter that goes to its end
 part-tail : (s : List ℕ) (start : ℕ) (i : List ℕ) → drop start s ≡ i → partOf s start (length i) ≡ i
@@ -192,7 +193,6 @@ module _ (x : Shipment) (ok : (k : ℕ) → k < countIn x → Facts x k) where
         record {
           heading = headingIn x k;
           origin = fieldsOf (st .table .registry) sent .origin;
-          length = fieldsOf (st .table .registry) sent .length;
           information = fieldsOf (st .table .registry) sent .information;
         }
 
@@ -231,12 +231,9 @@ module _ (x : Shipment) (ok : (k : ℕ) → k < countIn x → Facts x k) where
           handed = ap (λ (o : Reception). delivery (o .answer .decision) sent (o .store)) e ∙ e4;
         }
 
-    key-address : length (keyIn x .address) ≡ addressMost
-    key-address = filled-length (x .origin) (ok k l .origin)
-
     ended-by : (instruction segments n : ℕ) → instruction ≡ x .request .instruction → segments ≡ countIn x → n ≡ length (x .whole)
         → take recordLength (splice report 0 (recordsOctets (recordWith delivered 0 (keyIn x) instruction segments n ∷ []))) ≡ recordOctets (recordIn x)
-    ended-by instruction segments n e1 e2 e3 = rw (e1, e2, e3) (one-reported (recordIn x) report key-address ample)
+    ended-by instruction segments n e1 e2 e3 = rw (e1, e2, e3) (one-reported (recordIn x) report (filled-of (x .origin) (ok k l .origin)) ample)
 
     -- the only one
     module _ (whole-one : segmentedIn x ≡ false) where

@@ -11,7 +11,7 @@ use Rattle.rules.specs.General.{if_then_else_, every, everyTwo}
 use Rattle.rules.specs.Numbers.{entriesMost, timerInRange, elapsed}
 use Rattle.rules.specs.Refusals.{Check, _when_, accepted, first}
 use Rattle.rules.specs.Registry.{kindOf, entriesOf, isCut, isUnused, isEntry, isUsable, entriesApart, listsRegistry}
-use Rattle.rules.specs.Layout.{isUnsegmented, contextOf, fieldsOf, readingChecks}
+use Rattle.rules.specs.Layout.{isUnsegmented, contextOf, originAt, fieldsOf, readingChecks}
 use Rattle.rules.specs.Places.{noPlace, freePlace, holds, isAt, placeOf, placeAt, putPlace, lowestFree}
 use Rattle.rules.specs.Soundness.{isZero, addressSound, freeSound, placeSound, placesApart, sound}
 use Rattle.rules.specs.Opening.{emptyTable, openingChecks}
@@ -31,7 +31,7 @@ use Rattle.rules.specs.declared.Line.{Line}
 use Rattle.rules.specs.declared.Opened.{Opened}
 use Rattle.rules.proofs.Refusals.{Least, first-least, accepted-first}
 use Rattle.rules.proofs.Registry.{every-unused, padded-apart}
-use Rattle.rules.proofs.Reading.{parameter-short, address-short, context-registered, reference-short}
+use Rattle.rules.proofs.Reading.{parameter-short, origin-short, context-registered, reference-short}
 use Rattle.rules.proofs.Places.{IsFirst, place-is}
 use Rattle.rules.proofs.Held.{every-at, open-is}
 use Rattle.rules.proofs.Arrived.{arrived}
@@ -39,7 +39,7 @@ use Rattle.rules.proofs.Answers.{opened-by, segment-by, segment-accepted, clock
 use Rattle.rules.proofs.Lines.{line-cases}
 use Rattle.rules.proofs.Apart.{every-set, two-at, two-set, apart-new, apart-own, apart-free}
 use Rattle.rules.proofs.Sweeping.{open-place, clock-sound, release-sound}
-use Rattle.rules.proofs.Soundness.{SoundTable, sound-parts, sound-of, OpenPlace, open-parts, open-of, free-sound, filled-zero}
+use Rattle.rules.proofs.Soundness.{SoundTable, sound-parts, sound-of, OpenPlace, open-parts, open-of, free-sound, span-sound}
 use Rattle.demands.specs.Machine.{ours, checksOf, isOpening, SoundSummary}
 use Rattle.demands.specs.Seen.{seenBy}
 use Rattle.demands.specs.History.{Told, deedsOf, after}
@@ -101,19 +101,9 @@ module _ (t : Table) (association : ℕ) (s : List ℕ) (reading : accepted (rea
   abbrev key : Key
   key = keyOf association s f
 
-  -- kind 1 has no addresses
-  kind-empty : (kind : ℕ) (b : Bool) (n : ℕ) → eqb kind 2 ≡ b → (not (eqb kind 1) || isZero (if b then n else 0)) ≡ true
-  kind-empty kind true n e = let two = eqb-true kind 2 e in rw (ne-eqb kind 1 (λ h. omega arith))
-  kind-empty kind false n e = go (eqb kind 1)
-    where
-      go : (b : Bool) → (not b || true) ≡ true
-      go true = refl
-      go false = refl
-
-  address-sound : (p : Place) → p .key ≡ key → addressSound (kindOf (t .registry) (key .context .0)) p ≡ true
+  origin-sound : addressSound (kindOf (t .registry) (key .context .0)) (key .origin) ≡ true
   unfolding fieldsOf
-  address-sound p e =
-      rw (e, le-leb _ _ (address-short (t .registry) s reading), filled-zero (f .length) _ _, kind-empty (kindOf (t .registry) (contextOf s)) _ _ refl)
+  origin-sound = span-sound (kindOf (t .registry) (contextOf s)) s (originAt s) (origin-short (t .registry) s reading)
 
   registered : kindOf (t .registry) (key .context .0) ≡ 0 → ⊥
   unfolding fieldsOf
@@ -146,7 +136,7 @@ module _ (t : Table) (association : ℕ) (s : List ℕ) (reading : accepted (rea
         begun = one;
         count = ten;
         octets = most;
-        address = address-sound p refl;
+        origin = origin-sound;
         young = young;
       }))
 

@@ -42,7 +42,7 @@ loss-fits r timer clock cause p usable e typed =
     let known = kind-known r (p .key .context .0) usable (eqb-false (kindOf r (p .key .context .0)) 0 (not-true _ (all .0 .0 .0 .0 .0 .0 .0 .0 .0))) in
     let most = known .2 in
     let size = leb-true (p .octets) 2048 (all .0 .0 .1) in
-    record { address = typed .address; association = typed .association; context = omega arith; octets = omega arith }
+    record { origin = typed .origin; association = typed .association; context = omega arith; octets = omega arith }
 
 module _ (test : Place → Bool) (opens : (p : Place) → test p ≡ true → isOpen p ≡ true) (cause : ℕ) where
   losses-fit : (r : List Entry) (timer clock : ℕ) (ps : List Place) → every isUsable r ≡ true → every (placeSound r timer clock) ps ≡ true → All TypedPlace ps

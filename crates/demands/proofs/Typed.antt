@@ -25,7 +25,8 @@ use Rattle.rules.specs.declared.Line.{Line}
 use Rattle.rules.specs.declared.Line.the-variants.{Unsegmented, Broken, Restart, Start, Final, Next}
 use Rattle.rules.specs.declared.Opened.{Opened}
 use Rattle.rules.proofs.Answers.{opened-by, segment-by, segment-accepted, clock-by, release-by}
-use Rattle.rules.proofs.Reading.{address-short}
+use Rattle.rules.proofs.Reading.{origin-short}
+use Rattle.rules.proofs.Records.{filled-at}
 use Rattle.rules.proofs.Arrived.{arrived}
 use Rattle.demands.specs.Machine.{All, InRange, TypedPlace, Typed}
 
@@ -34,7 +35,7 @@ abbrev TypedPlaces : List Place → Type 0
 TypedPlaces ps = (length ps ≡ placeCount) × All TypedPlace ps
 
 free-typed : TypedPlace freePlace
-free-typed = record { address = refl; association = omega arith }
+free-typed = record { origin = refl; association = omega arith }
 
 all-set : (ps : List Place) (i : ℕ) (p : Place) → TypedPlace p → All TypedPlace ps → All TypedPlace (set ps i p)
 all-set [] i p h all = tt
@@ -53,11 +54,10 @@ empty-typed : (entries : List Entry) (timer clock : ℕ) → Typed (emptyTable e
 empty-typed entries timer clock = record { count = refl; each = all-free placeCount }
 
 -- a place with the key of a segment whose address is within 20
-key-typed : (association : ℕ) (s : List ℕ) (f : Fields) → association < 2 ^ 16 → f .length ≤ addressMost → (p : Place) → p .key ≡ keyOf association s f → TypedPlace p
+key-typed : (association : ℕ) (s : List ℕ) (f : Fields) → association < 2 ^ 16 → f .origin .length ≤ addressMost → (p : Place) → p .key ≡ keyOf association s f → TypedPlace p
 key-typed association s f a n p e =
-    let n20 : length (take (f .length) (drop (f .origin) s)) ≤ addressMost = rw length-take (omega arith) in
     record {
-      address = rw (e, length-append, length-replicate) (omega arith);
+      origin = rw e (filled-at s (f .origin) n);
       association = rw e a;
     }
 
@@ -96,7 +96,7 @@ typed-kept st (Arrives x) h r =
     segment-by (st .table) (st .summary) (st .store) (x .report) (x .association) s (λ (o : Reception). Typed (o .answer .table))
     (λ e.
     let own = segment-accepted (st .table) (st .summary) (st .store) (x .report) (x .association) s e .0 .own in
-    let short = address-short (st .table .registry) s (arrived (st .table) (st .store) (x .report) (x .association) s own .reading) in
+    let short = origin-short (st .table .registry) s (arrived (st .table) (st .store) (x .report) (x .association) s own .reading) in
     let all = effect-typed _ (st .table) (st .store) _ _ _ _ _ _ (key-typed (x .association) s (fieldsOf (st .table .registry) s) r short) (h .count, h .each) in
     record { count = all .0; each = all .1 })
     (λ e. h)

@@ -11,7 +11,7 @@ use Rattle.rules.specs.Numbers.{storeLeast}
 use Rattle.rules.specs.Refusals.{accepted}
 use Rattle.rules.specs.Registry.{kindOf}
 use Rattle.rules.specs.Layout.{fieldsOf}
-use Rattle.rules.specs.Records.{delivered, recordLength, zeroFilled, recordOctets}
+use Rattle.rules.specs.Records.{delivered, recordLength, addressOf, recordOctets}
 use Rattle.rules.specs.Places.{placeOf, lowestFree, isAt}
 use Rattle.rules.specs.Soundness.{sound}
 use Rattle.rules.specs.Receiving.{keyOf, recordWith}
@@ -89,11 +89,10 @@ pub record IsSent (x : Shipment) (a : Sender) (k : ℕ) (y : Seen) : Type 0 wher
 abbrev pub keyIn : Shipment → Key
 keyIn x =
     record {
-      address = zeroFilled (x .origin);
       association = x .association;
       context = x .request .context;
+      origin = addressOf (x .origin);
       reference = record { 0 = if segmentedIn x then x .request .reference .0 else 255 };
-      length = length (x .origin);
     }
 
 abbrev pub recordIn : Shipment → Record

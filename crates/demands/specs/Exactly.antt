@@ -4,9 +4,11 @@ use Prim.Native.Nat.{ℕ, _<_, _^_}
 use mathlib.Core.Path.{_≡_}
 use mathlib.Core.List.{List}
 use lib.ListN.{length}
-use Rattle.rules.specs.Numbers.{placeCount, entriesMost, addressMost}
+use Rattle.rules.specs.Numbers.{placeCount, entriesMost}
+use Rattle.rules.specs.Records.{Filled}
 use Rattle.rules.specs.Summary.{summaryLength}
 use Rattle.rules.specs.Calls.{State, Call, Opens, Arrives, Ticks, Releases, Sends, step}
+use Rattle.rules.specs.declared.Address.{Address}
 use Rattle.rules.specs.declared.Entry.{Entry}
 use Rattle.rules.specs.declared.Place.{Place}
 use Rattle.rules.specs.declared.Request.{Request}
@@ -20,13 +22,16 @@ Bits n x = x < 2 ^ n
 abbrev pub Octets : List ℕ → Type 0
 Octets l = All (Bits 8) l
 
+pub record OfAddress (a : Address) : Type 0 where
+  pub size : Filled a
+  pub octets : Octets (a .octets)
+  pub length : Bits 8 (a .length)
+
 pub record OfPlace (p : Place) : Type 0 where
-  pub size : length (p .key .address) ≡ addressMost
-  pub address : Octets (p .key .address)
+  pub origin : OfAddress (p .key .origin)
   pub association : Bits 16 (p .key .association)
   pub context : Bits 16 (p .key .context .0)
   pub reference : Bits 8 (p .key .reference .0)
-  pub length : Bits 8 (p .key .length)
   pub octets : Bits 16 (p .octets)
   pub start : Bits 32 (p .start)
   pub mark : Bits 8 (p .mark)

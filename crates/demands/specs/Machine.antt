@@ -4,7 +4,8 @@ use mathlib.Core.Path.{_≡_}
 use mathlib.Core.Bool.{Bool, true, false}
 use mathlib.Core.List.{List, [], _∷_, _++_}
 use lib.ListN.{length}
-use Rattle.rules.specs.Numbers.{placeCount, addressMost}
+use Rattle.rules.specs.Numbers.{placeCount}
+use Rattle.rules.specs.Records.{Filled}
 use Rattle.rules.specs.Refusals.{Check, accepted}
 use Rattle.rules.specs.Delivery.{delivery}
 use Rattle.rules.specs.Opening.{openingChecks}
@@ -74,7 +75,7 @@ InRange (Sends x) = Unit {0}
 
 -- what the types of a table's fields say: 16 places, each with an address of 20 octets and an association of 16 bits
 pub record TypedPlace (p : Place) : Type 0 where
-  pub address : length (p .key .address) ≡ addressMost
+  pub origin : Filled (p .key .origin)
   pub association : p .key .association < 2 ^ 16
 
 pub record Typed (t : Table) : Type 0 where

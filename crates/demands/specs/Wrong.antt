@@ -10,7 +10,7 @@ use Rattle.rules.specs.General.{if_then_else_, every, those}
 use Rattle.rules.specs.Numbers.{addressMost, stretchLength, placeStart, parameterMost}
 use Rattle.rules.specs.Refusals.{Check, accepted, judged}
 use Rattle.rules.specs.Registry.{kindOf}
-use Rattle.rules.specs.Records.{delivered, lost, recordOctets, recordsOctets}
+use Rattle.rules.specs.Records.{delivered, lost, addressOf, recordOctets, recordsOctets}
 use Rattle.rules.specs.Layout.{isUnsegmented, fieldsOf, contextOctets, parameterOctets}
 use Rattle.rules.specs.Places.{freePlace, isOpen, isFree, sameOctets, firstFrom, placeOf, lowestFree, isAt, placeAt, putPlace}
 use Rattle.rules.specs.Receiving.{keyOf, informationOf, recordWith, openPlace, lineOf, Effect, effectOf, receptionOf}
@@ -21,6 +21,7 @@ use Rattle.rules.specs.Delivery.{delivery, partOfPlace}
 use Rattle.rules.specs.Sending.{headerLength, isSegmented, countOf, firstCarries, laterCarries, pieceOf, headingFor, carried, segmentOctets}
 use Rattle.rules.specs.Calls.{State, stateOf, Call, Opens, Arrives, Ticks, Releases, Sends, Arrival, Tick, Release, Dispatch, lending, Decided, Undecided, As, Answer, answering, refusing}
 use Rattle.rules.specs.Calls.{Outcome, afterSegment, afterSweep, afterSending, step}
+use Rattle.rules.specs.declared.Address.{Address}
 use Rattle.rules.specs.declared.Key.{Key}
 use Rattle.rules.specs.declared.Fields.{Fields}
 use Rattle.rules.specs.declared.Heading.{Heading}
@@ -156,7 +157,7 @@ handsOutMore = record { step = step; deliver = tooMuch }
 abbrev emptyLoss : ℕ → Record
 emptyLoss association =
     recordWith lost 7
-    (record { address = replicate addressMost 0; association = association; context = record { 0 = 0 }; reference = record { 0 = 0 }; length = 0 })
+    (record { association = association; context = record { 0 = 0 }; origin = addressOf []; reference = record { 0 = 0 } })
     0 0 0
 
 abbrev pub losesNothing : Machine
@@ -290,15 +291,15 @@ sameBut test k ps =
     ps 0
 
 -- addresses are compared as numbers: 00 07 and 07 are one
-abbrev addressNumber : Key → ℕ
-addressNumber k = number (take (k .length) (k .address))
+abbrev addressNumber : Address → ℕ
+addressNumber a = number (take (a .length) (a .octets))
 
 abbrev pub comparesNumbers : Machine
-comparesNumbers = finding (sameBut (λ a b. eqb (addressNumber a) (addressNumber b)))
+comparesNumbers = finding (sameBut (λ a b. eqb (addressNumber (a .origin)) (addressNumber (b .origin))))
 
 -- addresses are compared without their length: 07 and 07 00 are one
 abbrev pub comparesFilled : Machine
-comparesFilled = finding (sameBut (λ a b. sameOctets (a .address) (b .address)))
+comparesFilled = finding (sameBut (λ a b. sameOctets (a .origin .octets) (b .origin .octets)))
 
 -- a new sequence goes to the highest free place
 abbrev highestFrom : List Place → ℕ → Found → Found

@@ -1,9 +1,10 @@
 -- What each reader answers: its field, or the number of the first check that applies there. The checks and the fields are the rules'.
 use Prim.Native.Nat.{ℕ, _+_}
+use mathlib.Core.Bool.{true}
 use mathlib.Core.List.{List}
 use Rattle.rules.specs.Refusals.{judged}
 use Rattle.rules.specs.Registry.{kindOf}
-use Rattle.rules.specs.Layout.{octet, contextOf, at2, isNew, remainingOf, referenceOf, pastSequence, pastAddress, lastChecks, contextChecks, sequenceChecks, addressChecks}
+use Rattle.rules.specs.Layout.{octet, contextOf, at2, isNew, remainingOf, referenceOf, pastSequence, pastAddress, spanAt, lastChecks, contextChecks, sequenceChecks, addressChecks}
 use Rattle.rules.specs.declared.Entry.{Entry}
 use Rattle.param_fields.specs.declared.LastField.{LastField}
 use Rattle.param_fields.specs.declared.LastField.the-variants.{LastIs, NotLast}
@@ -29,4 +30,4 @@ sequenceField s at =
     (pastSequence s at))
 
 unfoldable pub addressField : List ℕ → ℕ → AddressField
-addressField s at = judged (addressChecks s at) NoAddress (AddressIs (at + 1) (octet s at) (pastAddress s at))
+addressField s at = judged (addressChecks s at) NoAddress (AddressIs (spanAt true s at) (pastAddress s at))

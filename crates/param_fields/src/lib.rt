@@ -3,6 +3,7 @@ use rules::Context;
 use rules::Entry;
 use rules::Reference;
 use rules::Remaining;
+use rules::Span;
 ghost use mathlib.Core.Path.{_≡_};
 ghost use lib.Dec.{eqb};
 ghost use Rattle.rules.specs.General.{if_then_else_};
@@ -32,7 +33,7 @@ pub enum SequenceField {
 }
 
 pub enum AddressField {
-    AddressIs(usize, u8, usize),
+    AddressIs(Span, usize),
     NoAddress(u8),
 }
 
@@ -150,5 +151,5 @@ pub fn address_field(s: &[u8], at: usize) -> AddressField
     if s.len() - start < n {
         return AddressField::NoAddress(5);
     }
-    AddressField::AddressIs(start, length, start + n)
+    AddressField::AddressIs(Span { at: start, length }, start + n)
 }

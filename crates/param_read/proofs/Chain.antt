@@ -8,10 +8,11 @@ use lib.ListN.{length}
 use Rattle.rules.specs.Numbers.{parameterMost}
 use Rattle.rules.specs.Refusals.{Check, _when_, judged}
 use Rattle.rules.specs.Registry.{kindOf}
-use Rattle.rules.specs.Layout.{octet, isNew, remainingOf, pastAddress, at2, at3, originAt, contextOf, referenceOf, headingOf, fieldsOf, lastChecks, contextChecks, sequenceChecks, addressChecks, addressesChecks, readingChecks}
+use Rattle.rules.specs.Layout.{octet, isNew, remainingOf, pastAddress, at2, at3, originAt, contextOf, referenceOf, spanAt, headingOf, fieldsOf, lastChecks, contextChecks, sequenceChecks, addressChecks, addressesChecks, readingChecks}
 use Rattle.rules.proofs.Refusals.{judged-append, judged-then}
 use Rattle.rules.specs.declared.Context.{Context}
 use Rattle.rules.specs.declared.Entry.{Entry}
+use Rattle.rules.specs.declared.Span.{Span}
 use Rattle.param_fields.specs.Fields.{lastField, contextField, sequenceField, addressField}
 use Rattle.param_fields.specs.declared.Sequence.{Sequence}
 use Rattle.param_fields.specs.declared.LastField.{LastField}
@@ -29,15 +30,15 @@ use Rattle.param_read.specs.declared.Reading.{Reading}
 use Rattle.param_read.specs.declared.Reading.the-variants.{Read, Refused}
 
 -- the destination after the origin
-abbrev pub afterDestination : ℕ → ℕ → AddressField → AddressesField
-afterDestination start n (NoAddress e) = NoAddresses e
-afterDestination start n (AddressIs start′ n′ past) = AddressesAre (record { origin = start; length = n; information = past })
+abbrev pub afterDestination : Span → AddressField → AddressesField
+afterDestination o (NoAddress e) = NoAddresses e
+afterDestination o (AddressIs d past) = AddressesAre (record { origin = o; information = past })
 
 abbrev pub afterOrigin : List ℕ → AddressField → AddressesField
 afterOrigin s (NoAddress e) = NoAddresses e
-afterOrigin s (AddressIs start n past) = afterDestination start n (addressField s past)
+afterOrigin s (AddressIs o past) = afterDestination o (addressField s past)
 
-pub addresses-none : (s : List ℕ) (kind at : ℕ) → eqb kind 2 ≡ false → addressesField s kind at ≡ AddressesAre (record { origin = at; length = 0; information = at })
+pub addresses-none : (s : List ℕ) (kind at : ℕ) → eqb kind 2 ≡ false → addressesField s kind at ≡ AddressesAre (record { origin = record { at = 0; length = 0 }; information = at })
 unfolding addressesField
 addresses-none s kind at e = simp e
 
@@ -48,9 +49,9 @@ addresses-both s kind at e =
     simp e
     (judged-append (addressChecks s at) (addressChecks s past) NoAddresses _
     ∙ sym
-    (judged-then (afterOrigin s) (addressChecks s at) NoAddress (AddressIs (at + 1) (octet s at) past)
+    (judged-then (afterOrigin s) (addressChecks s at) NoAddress (AddressIs (spanAt true s at) past)
     ∙ ap (λ (r : AddressesField). judged (addressChecks s at) NoAddresses r)
-    (judged-then (afterDestination (at + 1) (octet s at)) (addressChecks s past) NoAddress (AddressIs (past + 1) (octet s past) (pastAddress s past)))))
+    (judged-then (afterDestination (spanAt true s at)) (addressChecks s past) NoAddress (AddressIs (spanAt true s past) (pastAddress s past)))))
 
 -- a whole parameter
 abbrev pub afterSequence : List ℕ → Context → ℕ → ℕ → SequenceField → Reading

@@ -1,9 +1,8 @@
 -- What reading the addresses answers, and a whole parameter: the fields, or the number of the first check that applies. The checks and the fields are the rules'.
-use Prim.Native.Nat.{ℕ, _+_}
+use Prim.Native.Nat.{ℕ}
 use mathlib.Core.List.{List}
-use Rattle.rules.specs.General.{if_then_else_}
 use Rattle.rules.specs.Refusals.{judged}
-use Rattle.rules.specs.Layout.{octet, hasAddresses, informationAt, fieldsOf, addressesChecks, readingChecks}
+use Rattle.rules.specs.Layout.{hasAddresses, spanAt, informationAt, fieldsOf, addressesChecks, readingChecks}
 use Rattle.rules.specs.declared.Context.{Context}
 use Rattle.rules.specs.declared.Entry.{Entry}
 use Rattle.rules.specs.declared.Heading.{Heading}
@@ -18,8 +17,7 @@ addressesField s kind at =
     judged (addressesChecks kind s at) NoAddresses
     (AddressesAre
     (record {
-      origin = if hasAddresses kind then at + 1 else at;
-      length = if hasAddresses kind then octet s at else 0;
+      origin = spanAt (hasAddresses kind) s at;
       information = informationAt kind s at;
     }))
 
@@ -42,4 +40,4 @@ headingFrom context kind instruction q =
 unfoldable pub afterAddresses : Heading → AddressesField → Reading
 afterAddresses g (NoAddresses n) = Refused n
 afterAddresses g (AddressesAre a) =
-    Read (record { heading = g; origin = a .origin; length = a .length; information = a .information })
+    Read (record { heading = g; origin = a .origin; information = a .information })

@@ -8,13 +8,13 @@ use rules::Context;
 use rules::Entry;
 use rules::Fields;
 use rules::Heading;
+use rules::Span;
 ghost use mathlib.Core.Path.{_≡_};
 ghost use lib.ListN.{drop};
 ghost use Rattle.param_read.specs.Reading.{addressesField, headingFrom, afterAddresses, reading};
 
 pub struct Addresses {
-    pub origin: usize,
-    pub length: u8,
+    pub origin: Span,
     pub information: usize,
 }
 
@@ -35,19 +35,17 @@ fn addresses_field(s: &[u8], kind: u8, at: usize) -> AddressesField
 {
     if kind != 2 {
         return AddressesField::AddressesAre(Addresses {
-            origin: at,
-            length: 0,
+            origin: Span { at: 0, length: 0 },
             information: at,
         });
     }
     match param_fields::address_field(s, at) {
         AddressField::NoAddress(n) => AddressesField::NoAddresses(n),
-        AddressField::AddressIs(origin, length, end) => match param_fields::address_field(s, end) {
+        AddressField::AddressIs(origin, end) => match param_fields::address_field(s, end) {
             AddressField::NoAddress(n) => AddressesField::NoAddresses(n),
-            AddressField::AddressIs(_, _, information) => {
+            AddressField::AddressIs(_, information) => {
                 AddressesField::AddressesAre(Addresses {
                     origin,
-                    length,
                     information,
                 })
             }
@@ -77,12 +75,14 @@ fn rest(s: &[u8], heading: Heading, at: usize) -> Reading
 {
     match addresses_field(s, heading.kind, at) {
         AddressesField::NoAddresses(n) => Reading::Refused(n),
-        AddressesField::AddressesAre(a) => Reading::Read(Fields {
-            heading,
-            origin: a.origin,
-            length: a.length,
-            information: a.information,
-        }),
+        AddressesField::AddressesAre(a) => {
+            let origin = a.origin;
+            Reading::Read(Fields {
+                heading,
+                origin,
+                information: a.information,
+            })
+        }
     }
 }
 

@@ -1,4 +1,4 @@
--- A key's originating address, zero filled.
+-- An address of a parameter, zero filled.
 use Prim.Native.Nat.{ℕ, _+_, _-_, _≤_}
 use mathlib.Core.Path.{_≡_, sym, ap, _∙_}
 use mathlib.Core.List.{List, _++_}
@@ -9,9 +9,9 @@ use Rattle.octets.specs.Splice.{splice}
 use Rattle.octets.proofs.Splice.{splice-is}
 use Rattle.rules.specs.Numbers.{addressMost}
 use Rattle.rules.specs.Records.{zeroFilled}
-use Rattle.rules.specs.Receiving.{keyOf}
-use Rattle.rules.specs.declared.Key.{Key}
-use Rattle.rules.specs.declared.Fields.{Fields}
+use Rattle.rules.specs.Receiving.{addressAt}
+use Rattle.rules.specs.declared.Address.{Address}
+use Rattle.rules.specs.declared.Span.{Span}
 
 drop-zeros : (n m : ℕ) → drop n (replicate {A = ℕ} (n + m) 0) ≡ replicate m 0
 drop-zeros n m = ap (λ (l : List ℕ). drop n l) (sym (lib.ListN.replicate-append-replicate n m 0)) ∙ lib.Seq.drop-at (replicate n 0) (replicate m 0) n (length-replicate n 0)
@@ -22,12 +22,11 @@ filled l h =
     let m : length l + (addressMost - length l) ≡ addressMost = omega arith in
     splice-is (replicate addressMost 0) 0 l (omega arith) ∙ rw zero-add (ap (λ (r : List ℕ). l ++ r) (rw m at (drop-zeros (length l) (addressMost - length l))))
 
--- a key from its address
-abbrev keyWith : ℕ → Fields → List ℕ → Key
-keyWith association f address =
-    record { address = address; association = association; context = f .heading .context; reference = f .heading .reference; length = f .length }
+-- an address from its octets
+abbrev addressWith : Span → List ℕ → Address
+addressWith a octets = record { octets = octets; length = a .length }
 
-pub key-is : (association : ℕ) (s : List ℕ) (f : Fields) (part address : List ℕ) → f .length ≤ addressMost → part ≡ take (f .length) (drop (f .origin) s)
-    → address ≡ splice (replicate addressMost 0) 0 part → keyWith association f address ≡ keyOf association s f
-key-is association s f part address h e a =
-    ap (keyWith association f) (a ∙ rw e (filled (take (f .length) (drop (f .origin) s)) (simp lib.ListN.length-take (omega arith))))
+pub address-is : (s : List ℕ) (a : Span) (part octets : List ℕ) → a .length ≤ addressMost → part ≡ take (a .length) (drop (a .at) s)
+    → octets ≡ splice (replicate addressMost 0) 0 part → addressWith a octets ≡ addressAt s a
+address-is s a part octets h e f =
+    ap (addressWith a) (f ∙ rw e (filled (take (a .length) (drop (a .at) s)) (simp lib.ListN.length-take (omega arith))))

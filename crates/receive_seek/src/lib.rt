@@ -1,8 +1,10 @@
 // A parameter read, and the place that it is about.
 use param_read::Reading;
+use rules::Address;
 use rules::Fields;
 use rules::Key;
 use rules::Place;
+use rules::Span;
 use rules::Table;
 use table::Search;
 ghost use mathlib.Core.Path.{_≡_};
@@ -10,7 +12,7 @@ ghost use mathlib.Core.Bool.{false};
 ghost use Prim.Native.Nat.{_≤_, _<_};
 ghost use Rattle.rules.specs.Numbers.{addressMost, placeCount};
 ghost use Rattle.rules.specs.Places.{placeOf, lowestFree};
-ghost use Rattle.rules.specs.Receiving.{keyOf};
+ghost use Rattle.rules.specs.Receiving.{addressAt, keyOf};
 ghost use Rattle.param_read.specs.Reading.{reading};
 ghost use Rattle.table.specs.Seeking.{Points};
 ghost use Rattle.receive_seek.specs.Seeking.{Seeks};
@@ -22,24 +24,34 @@ pub struct Sought {
     pub search: Search,
 }
 
-// The key of a segment's sequence: its originating address is copied, zero filled.
+// An address of a parameter, copied and zero filled.
+fn address_at(s: &[u8], a: Span) -> Address
+    requires { ⌜ a .length ≤ addressMost ⌝ }
+    ensures { λ r. ⌜ r ≡ addressAt (now (s .entry)) a ⌝ }
+{
+    let mut octets = [0; 20];
+    octets::put(&mut octets, octets::part(s, a.at, a.length as usize));
+    Address {
+        octets,
+        length: a.length,
+    }
+}
+
+// The key of a segment's sequence.
 fn key_of(association: u16, s: &[u8], f: Fields) -> Key
-    requires { ⌜ f .length ≤ addressMost ⌝ }
+    requires { ⌜ f .origin .length ≤ addressMost ⌝ }
     ensures { λ r. ⌜ r ≡ keyOf association (now (s .entry)) f ⌝ }
 {
-    let from = f.origin;
-    let n = f.length as usize;
     let heading = f.heading;
     let context = heading.context;
     let reference = heading.reference;
-    let mut address = [0; 20];
-    octets::put(&mut address, octets::part(s, from, n));
+    let from = f.origin;
+    let origin = address_at(s, from);
     Key {
-        address,
         association,
         context,
+        origin,
         reference,
-        length: f.length,
     }
 }
 

@@ -5,11 +5,12 @@ use mathlib.Core.Logic.{_↔_}
 use mathlib.Core.Bool.{Bool, true, _&&_, and-eq-true-iff, true≢false}
 use mathlib.Core.List.{List, [], _∷_}
 use lib.Dec.{eqb}
-use lib.ListN.{length, take}
+use lib.ListN.{take}
 use Rattle.octets.specs.Number.{number}
-use Rattle.rules.specs.Records.{zeroFilled}
+use Rattle.rules.specs.Records.{addressOf}
 use borrow.Author.Tests.{eqb-true, eq-eqb}
-use Rattle.rules.specs.Places.{sameOctets, sameKey}
+use Rattle.rules.specs.Places.{sameOctets, sameAddress, sameKey}
+use Rattle.rules.specs.declared.Address.{Address}
 use Rattle.rules.specs.declared.Key.{Key}
 
 octets-equal : (a b : List ℕ) → sameOctets a b ≡ true → a ≡ b
@@ -26,23 +27,38 @@ octets-self : (a : List ℕ) → sameOctets a a ≡ true
 octets-self [] = refl
 octets-self (x ∷ a) = simp (eq-eqb x x refl, octets-self a)
 
--- a key from its parts
-abbrev keyFrom : List ℕ → ℕ → ℕ → ℕ → ℕ → Key
-keyFrom o a c r n = record { address = o; association = a; context = record { 0 = c }; reference = record { 0 = r }; length = n }
+-- an address from its parts
+abbrev addressFrom : List ℕ → ℕ → Address
+addressFrom o n = record { octets = o; length = n }
 
-parts-equal : (o p : List ℕ) (a b c d r s n m : ℕ) → a ≡ b → c ≡ d → r ≡ s → n ≡ m → o ≡ p → keyFrom o a c r n ≡ keyFrom p b d s m
-parts-equal o p a b c d r s n m e1 e2 e3 e4 e5 = rw (e1, e2, e3, e4, e5)
+address-parts : (o p : List ℕ) (n m : ℕ) → n ≡ m → o ≡ p → addressFrom o n ≡ addressFrom p m
+address-parts o p n m e f = rw (e, f)
+
+pub same-address : (a b : Address) → (sameAddress a b ≡ true) ↔ (a ≡ b)
+unfolding sameAddress
+same-address a b = (equal, λ e. rw e (simp (eq-eqb (b .length) (b .length) refl, octets-self (b .octets))))
+  where
+    equal : (eqb (a .length) (b .length) && sameOctets (a .octets) (b .octets)) ≡ true → a ≡ b
+    equal e =
+        let both = and-eq-true-iff (eqb (a .length) (b .length)) (sameOctets (a .octets) (b .octets)) .0 e in
+        address-parts (a .octets) (b .octets) _ _ (eqb-true (a .length) (b .length) (both .0)) (octets-equal (a .octets) (b .octets) (both .1))
+
+-- a key from its parts
+abbrev keyFrom : ℕ → ℕ → Address → ℕ → Key
+keyFrom a c o r = record { association = a; context = record { 0 = c }; origin = o; reference = record { 0 = r } }
+
+parts-equal : (a b c d r s : ℕ) (o p : Address) → a ≡ b → c ≡ d → r ≡ s → o ≡ p → keyFrom a c o r ≡ keyFrom b d p s
+parts-equal a b c d r s o p e1 e2 e3 e4 = rw (e1, e2, e3, e4)
 
 pub same-equal : (a b : Key) → sameKey a b ≡ true → a ≡ b
 unfolding sameKey
 same-equal a b e =
     let all = simp and-eq-true-iff at e in
-    parts-equal (a .address) (b .address) _ _ _ _ _ _ _ _
-    (eqb-true (a .association) (b .association) (all .0 .0 .0 .0))
-    (eqb-true (a .context .0) (b .context .0) (all .0 .0 .0 .1))
-    (eqb-true (a .reference .0) (b .reference .0) (all .0 .0 .1))
-    (eqb-true (a .length) (b .length) (all .0 .1))
-    (octets-equal (a .address) (b .address) (all .1))
+    parts-equal _ _ _ _ _ _ (a .origin) (b .origin)
+    (eqb-true (a .association) (b .association) (all .0 .0 .0))
+    (eqb-true (a .context .0) (b .context .0) (all .0 .0 .1))
+    (eqb-true (a .reference .0) (b .reference .0) (all .0 .1))
+    (same-address (a .origin) (b .origin) .0 (all .1))
 
 pub same-self : (a : Key) → sameKey a a ≡ true
 unfolding sameKey
@@ -51,36 +67,38 @@ same-self a =
       eq-eqb (a .association) (a .association) refl,
       eq-eqb (a .context .0) (a .context .0) refl,
       eq-eqb (a .reference .0) (a .reference .0) refl,
-      eq-eqb (a .length) (a .length) refl,
-      octets-self (a .address),
+      same-address (a .origin) (a .origin) .1 refl,
     )
 
 pub same-key : (a b : Key) → (sameKey a b ≡ true) ↔ (a ≡ b)
 same-key a b = (same-equal a b, λ e. rw e (same-self b))
 
 -- wrong comparisons, refuted. By number: 00 07 and 07 would be one node. By the zero-filled octets alone: 07 and 07 00 would be one
+abbrev addressNumber : Address → ℕ
+addressNumber a = number (take (a .length) (a .octets))
+
 abbrev asNumbers : Key → Key → Bool
 asNumbers a b =
     eqb (a .association) (b .association)
     && eqb (a .context .0) (b .context .0)
     && eqb (a .reference .0) (b .reference .0)
-    && eqb (number (take (a .length) (a .address))) (number (take (b .length) (b .address)))
+    && eqb (addressNumber (a .origin)) (addressNumber (b .origin))
 
 abbrev withoutLength : Key → Key → Bool
 withoutLength a b =
     eqb (a .association) (b .association)
     && eqb (a .context .0) (b .context .0)
     && eqb (a .reference .0) (b .reference .0)
-    && sameOctets (a .address) (b .address)
+    && sameOctets (a .origin .octets) (b .origin .octets)
 
 -- a key of one association, context and reference
 abbrev from : List ℕ → Key
-from address = keyFrom (zeroFilled address) 9 4 5 (length address)
+from octets = keyFrom 9 4 (addressOf octets) 5
 
 pub not-as-numbers : ((a b : Key) → asNumbers a b ≡ sameKey a b) → ⊥
-unfolding sameKey
+unfolding sameKey sameAddress
 not-as-numbers h = true≢false (h (from (0 ∷ 7 ∷ [])) (from (7 ∷ [])))
 
 pub not-without-length : ((a b : Key) → withoutLength a b ≡ sameKey a b) → ⊥
-unfolding sameKey
+unfolding sameKey sameAddress
 not-without-length h = true≢false (h (from (7 ∷ [])) (from (7 ∷ 0 ∷ [])))

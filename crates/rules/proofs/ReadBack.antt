@@ -14,6 +14,8 @@ use Rattle.rules.specs.Numbers.{parameterMost}
 use Rattle.rules.specs.Refusals.{Check, _when_, accepted}
 use Rattle.rules.specs.Registry.{kindOf}
 use Rattle.rules.specs.Layout.{octet, contextOf, at2, at3, isNew, remainingOf, isUnsegmented, referenceOf, pastSequence, originAt, pastAddress, hasAddresses, informationAt, fieldsOf, lastChecks, contextChecks, sequenceChecks, addressChecks, addressesChecks, readingChecks, contextOctets, sequenceOctets, addressesOctets, parameterOctets}
+use Rattle.rules.specs.Records.{addressOf}
+use Rattle.rules.specs.Receiving.{addressAt}
 use Rattle.rules.specs.Sending.{isSegmented, headingFor, carried, segmentOctets, sendingChecks}
 use Rattle.rules.specs.declared.Entry.{Entry}
 use Rattle.rules.specs.declared.Table.{Table}
@@ -165,7 +167,7 @@ address-back a s at rest most e =
 -- both addresses, or none, and the information
 record AddressesBack (kind : ℕ) (o d s : List ℕ) (at : ℕ) (rest : List ℕ) : Type 0 where
   size : (if hasAddresses kind then octet s at else 0) ≡ length o
-  origin : take (length o) (drop (if hasAddresses kind then at + 1 else at) s) ≡ o
+  origin : take (length o) (drop (if hasAddresses kind then at + 1 else 0) s) ≡ o
   destinationSize : kind ≡ 2 → octet s (pastAddress s at) ≡ length d
   destination : kind ≡ 2 → take (length d) (drop (pastAddress s at + 1) s) ≡ d
   checks : accepted (addressesChecks kind s at) ≡ true
@@ -216,10 +218,9 @@ pub record Writable (r : List Entry) (g : Heading) (o d information : List ℕ) 
 pub record ReadsBack (r : List Entry) (s : List ℕ) (g : Heading) (o d info : List ℕ) : Type 0 where
   pub accepted : accepted (readingChecks r s) ≡ true
   pub heading : fieldsOf r s .heading ≡ g
-  pub origin : take (fieldsOf r s .length) (drop (fieldsOf r s .origin) s) ≡ o
+  pub origin : addressAt s (fieldsOf r s .origin) ≡ addressOf o
   pub destination : g .kind ≡ 2 → (octet s (pastAddress s (originAt s)) ≡ length d) × (take (length d) (drop (pastAddress s (originAt s) + 1) s) ≡ d)
   pub information : drop (fieldsOf r s .information) s ≡ info
-  pub length : fieldsOf r s .length ≡ length o
 
 -- a heading from its parts
 abbrev headingFrom : ℕ → ℕ → ℕ → Bool → ℕ → ℕ → Heading
@@ -268,10 +269,9 @@ module _ (r : List Entry) (g : Heading) (o d information : List ℕ) (w : Writab
       record {
         accepted = both (four ++ cs ++ ls ++ qs) _ three (rw kind (addresses .checks));
         heading = parts-equal _ _ _ _ _ _ _ _ _ _ _ _ (context .value) kind instruction (sequence .new) (sequence .remaining) (sequence .reference);
-        origin = rw (kind, addresses .size) (addresses .origin);
+        origin = rw (kind, addresses .size, addresses .origin);
         destination = λ k. (addresses .destinationSize k, addresses .destination k);
         information = rw kind (addresses .past);
-        length = rw kind (addresses .size);
       }
 
   pub parameter-back : ReadsBack r (parameterOctets g o d information) g o d information

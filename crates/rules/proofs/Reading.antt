@@ -16,12 +16,12 @@ use Rattle.rules.specs.declared.Entry.{Entry}
 use Rattle.rules.proofs.Refusals.{accepted-both, accepted-one}
 
 -- the length octet, where there is one
-origin-short : (s : List ℕ) (at : ℕ) (b : Bool) (kind : ℕ) → hasAddresses kind ≡ b → accepted (addressesChecks kind s at) ≡ true
+length-short : (s : List ℕ) (at : ℕ) (b : Bool) (kind : ℕ) → hasAddresses kind ≡ b → accepted (addressesChecks kind s at) ≡ true
     → (if b then octet s at else 0) ≤ addressMost
-origin-short s at true kind h e =
+length-short s at true kind h e =
     let all = simp and-eq-true-iff at (simp h at e) in
     ltb-false addressMost (octet s at) (not-true _ (all .1 .0))
-origin-short s at false kind h e = omega arith
+length-short s at false kind h e = omega arith
 
 module _ (registry : List Entry) (s : List ℕ) (e : accepted (readingChecks registry s) ≡ true) where
   abbrev four : List Check
@@ -37,9 +37,9 @@ module _ (registry : List Entry) (s : List ℕ) (e : accepted (readingChecks reg
   pub parameter-short : length s ≤ parameterMost
   parameter-short = ltb-false parameterMost (length s) (not-true _ (and-eq-true-iff _ _ .0 (parts .0) .0))
 
-  pub address-short : fieldsOf registry s .length ≤ addressMost
+  pub origin-short : fieldsOf registry s .origin .length ≤ addressMost
   unfolding fieldsOf
-  address-short = origin-short s (originAt s) (hasAddresses (kindOf registry (contextOf s))) (kindOf registry (contextOf s)) refl (parts .1)
+  origin-short = length-short s (originAt s) (hasAddresses (kindOf registry (contextOf s))) (kindOf registry (contextOf s)) refl (parts .1)
 
   sequence : (accepted (four ++ contextChecks registry s ++ lastChecks s (at2 s)) ≡ true) × (accepted (sequenceChecks s (at3 s)) ≡ true)
   sequence = accepted-both (four ++ contextChecks registry s ++ lastChecks s (at2 s)) (sequenceChecks s (at3 s)) (parts .0)

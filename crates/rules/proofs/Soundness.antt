@@ -1,15 +1,19 @@
 -- What soundness asks of an open place, of a key and of a table, in parts.
 use Prim.Native.Nat.{ℕ, zero, suc, _+_, _≤_, _<_}
 use mathlib.Core.Path.{_≡_, refl}
-use mathlib.Core.Bool.{Bool, true, _&&_, and-eq-true-iff}
+use mathlib.Core.Bool.{Bool, true, false, not, _&&_, _||_, and-eq-true-iff, or-true}
 use mathlib.Core.List.{List, [], _∷_, _++_}
-use borrow.Author.Tests.{leb-true, ltb-true, eqb-false, ne-eqb, le-leb, lt-ltb, not-true}
+use borrow.Author.Tests.{leb-true, ltb-true, eqb-true, eqb-false, ne-eqb, le-leb, lt-ltb, not-true}
+use native.Mathlib.Omega.{arith}
+use lib.Dec.{eqb}
 use lib.ListN.{take, drop, replicate}
-use Rattle.rules.specs.General.{every, everyTwo}
-use Rattle.rules.specs.Numbers.{timerInRange, referenceMost, instructionMost, segmentsMost, dataMost, elapsed}
+use Rattle.rules.specs.General.{if_then_else_, every, everyTwo}
+use Rattle.rules.specs.Numbers.{timerInRange, referenceMost, instructionMost, segmentsMost, dataMost, addressMost, elapsed}
 use Rattle.rules.specs.Registry.{kindOf, registrySound}
+use Rattle.rules.specs.Layout.{octet, hasAddresses, spanAt}
 use Rattle.rules.specs.Places.{freePlace}
 use Rattle.rules.specs.Soundness.{isZero, addressSound, openSound, freeSound, placeSound, placesApart, sound}
+use Rattle.rules.specs.Receiving.{addressAt}
 use Rattle.rules.specs.declared.Entry.{Entry}
 use Rattle.rules.specs.declared.Place.{Place}
 use Rattle.rules.specs.declared.Table.{Table}
@@ -42,7 +46,7 @@ pub record OpenPlace (registry : List Entry) (timer clock : ℕ) (p : Place) : T
   pub begun : 1 ≤ p .segments
   pub count : p .segments + p .remaining .0 ≤ segmentsMost
   pub octets : p .octets ≤ dataMost
-  pub address : addressSound (kindOf registry (p .key .context .0)) p ≡ true
+  pub origin : addressSound (kindOf registry (p .key .context .0)) (p .key .origin) ≡ true
   pub young : elapsed clock (p .start) < timer
 
 module _ (registry : List Entry) (timer clock : ℕ) (p : Place) where
@@ -59,7 +63,7 @@ module _ (registry : List Entry) (timer clock : ℕ) (p : Place) where
         begun = leb-true _ _ (all .0 .0 .0 .0 .1);
         count = leb-true _ _ (all .0 .0 .0 .1);
         octets = leb-true _ _ (all .0 .0 .1);
-        address = rw (all .0 .1 .0 .0, all .0 .1 .0 .1, all .0 .1 .1);
+        origin = all .0 .1;
         young = ltb-true _ _ (all .1);
       }
 
@@ -75,7 +79,7 @@ module _ (registry : List Entry) (timer clock : ℕ) (p : Place) where
         le-leb _ _ (h .begun),
         le-leb _ _ (h .count),
         le-leb _ _ (h .octets),
-        h .address,
+        h .origin,
         lt-ltb _ _ (h .young),
       )
 
@@ -90,7 +94,19 @@ zeros (suc n) zero = refl
 zeros (suc n) (suc m) = zeros n m
 
 -- what is filled after n octets or fewer is zero after n
-pub filled-zero : (n m : ℕ) (l : List ℕ) → every isZero (drop n (take n l ++ replicate m 0)) ≡ true
+filled-zero : (n m : ℕ) (l : List ℕ) → every isZero (drop n (take n l ++ replicate m 0)) ≡ true
 filled-zero zero m l = zeros zero m
 filled-zero (suc n) m [] = zeros (suc n) m
 filled-zero (suc n) m (x ∷ l) = filled-zero n m l
+
+-- an address that stands in a parameter, where there are address fields, and none where there are not
+pub span-sound : (kind : ℕ) (s : List ℕ) (at : ℕ) → (if hasAddresses kind then octet s at else 0) ≤ addressMost
+    → addressSound kind (addressAt s (spanAt (hasAddresses kind) s at)) ≡ true
+unfolding addressSound
+span-sound kind s at short =
+    rw (le-leb _ _ short, filled-zero (spanAt (hasAddresses kind) s at .length) _ _, empty (eqb kind 2) refl)
+  where
+    -- kind 1 has no addresses
+    empty : (b : Bool) → eqb kind 2 ≡ b → (not (eqb kind 1) || isZero (if b then octet s at else 0)) ≡ true
+    empty true e = let two = eqb-true kind 2 e in rw (ne-eqb kind 1 (λ h. omega arith))
+    empty false e = or-true (not (eqb kind 1))

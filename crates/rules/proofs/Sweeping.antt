@@ -64,7 +64,7 @@ young registry timer clock time p d s = go (isOpen p) refl
           begun = old .begun;
           count = old .count;
           octets = old .octets;
-          address = old .address;
+          origin = old .origin;
           young = elapsed-less;
         }))
     go false o = simp o (simp o at s)

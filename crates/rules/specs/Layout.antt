@@ -10,6 +10,7 @@ use Rattle.rules.specs.Refusals.{Check, _when_}
 use Rattle.rules.specs.Registry.{kindOf}
 use Rattle.rules.specs.declared.Entry.{Entry}
 use Rattle.rules.specs.declared.Heading.{Heading}
+use Rattle.rules.specs.declared.Span.{Span}
 use Rattle.rules.specs.declared.Fields.{Fields}
 
 abbrev pub octet : List ℕ → ℕ → ℕ
@@ -83,13 +84,16 @@ headingOf registry s =
       reference = record { 0 = referenceOf s (at3 s) };
     }
 
--- the originating address and the information of a parameter whose addresses would start at a position
+-- where an address stands whose length octet is at a position; with no address fields there is none
+abbrev pub spanAt : Bool → List ℕ → ℕ → Span
+spanAt has s at = record { at = if has then at + 1 else 0; length = if has then octet s at else 0 }
+
+-- the addresses and the information of a parameter whose addresses would start at a position
 abbrev pub fieldsAt : Heading → List ℕ → ℕ → Fields
 fieldsAt g s at =
     record {
       heading = g;
-      origin = if hasAddresses (g .kind) then at + 1 else at;
-      length = if hasAddresses (g .kind) then octet s at else 0;
+      origin = spanAt (hasAddresses (g .kind)) s at;
       information = informationAt (g .kind) s at;
     }
 

@@ -11,6 +11,7 @@ use Rattle.rules.specs.Sweep.{lossOf, lossesBy}
 use Rattle.rules.specs.Calls.{Decided, Undecided, As}
 use Rattle.rules.specs.Trace.{isOpening, Sight, Observer, watching}
 use Rattle.rules.specs.Lines.{decimal, field, stopIf, counted, eventFields, recordsBy}
+use Rattle.rules.specs.declared.Address.{Address}
 use Rattle.rules.specs.declared.Key.{Key}
 use Rattle.rules.specs.declared.Place.{Place}
 use Rattle.rules.specs.declared.Record.{Record}
@@ -51,9 +52,9 @@ hexOf (x ∷ xs) = hexDigit (x / 16) ∷ hexDigit (x % 16) ∷ hexOf xs
 abbrev pub referenceWord : ℕ → List ℕ
 referenceWord reference = if eqb reference 255 then dash else decimal reference
 
--- the originating address: as many octets as its length says, and never their number's value
-abbrev pub originWord : ℕ → List ℕ → List ℕ
-originWord n address = if eqb n 0 then dash else hexOf (take n address)
+-- an address: as many octets as its length says, and never their number's value
+abbrev pub addressWord : Address → List ℕ
+addressWord a = if eqb (a .length) 0 then dash else hexOf (take (a .length) (a .octets))
 
 -- a record with all its fields, behind a word: association, context, reference, instruction, cause, segments, octets, originating address
 unfoldable pub recordLine : List ℕ → Record → List ℕ
@@ -66,7 +67,7 @@ recordLine word r =
     ++ field (r .cause)
     ++ field (r .segments)
     ++ field (r .octets)
-    ++ (32 ∷ originWord (r .key .length) (r .key .address))
+    ++ (32 ∷ addressWord (r .key .origin))
     ++ (10 ∷ [])
 
 abbrev pub recordWord : ℕ → List ℕ

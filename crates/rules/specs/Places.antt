@@ -6,6 +6,7 @@ use lib.Dec.{eqb}
 use lib.ListN.{getD, set, replicate}
 use Rattle.rules.specs.General.{if_then_else_}
 use Rattle.rules.specs.Numbers.{addressMost, placeCount}
+use Rattle.rules.specs.declared.Address.{Address}
 use Rattle.rules.specs.declared.Key.{Key}
 use Rattle.rules.specs.declared.Place.{Place}
 use Rattle.rules.specs.declared.Found.{Found}
@@ -18,14 +19,17 @@ sameOctets [] (y ∷ ys) = false
 sameOctets (x ∷ xs) [] = false
 sameOctets (x ∷ xs) (y ∷ ys) = eqb x y && sameOctets xs ys
 
--- a sequence's key is association, context, originating address (length and octets) and reference
+-- an address is its length and its octets, and never their number's value
+unfoldable pub sameAddress : Address → Address → Bool
+sameAddress a b = eqb (a .length) (b .length) && sameOctets (a .octets) (b .octets)
+
+-- a sequence's key is association, context, originating address and reference
 unfoldable pub sameKey : Key → Key → Bool
 sameKey a b =
     eqb (a .association) (b .association)
     && eqb (a .context .0) (b .context .0)
     && eqb (a .reference .0) (b .reference .0)
-    && eqb (a .length) (b .length)
-    && sameOctets (a .address) (b .address)
+    && sameAddress (a .origin) (b .origin)
 
 -- a place's mark is 1 where a sequence is open and 0 where it is free
 abbrev pub isOpen : Place → Bool
@@ -38,10 +42,13 @@ abbrev pub holds : Key → Place → Bool
 holds k p = isOpen p && sameKey (p .key) k
 
 -- a place with nothing in it and these octets for an address
+abbrev zeroAddress : List ℕ → Address
+zeroAddress octets = record { octets = octets; length = 0 }
+
 abbrev zeroPlace : List ℕ → Place
-zeroPlace address =
+zeroPlace octets =
     record {
-      key = record { address = address; association = 0; context = record { 0 = 0 }; reference = record { 0 = 0 }; length = 0 };
+      key = record { association = 0; context = record { 0 = 0 }; origin = zeroAddress octets; reference = record { 0 = 0 } };
       octets = 0;
       start = 0;
       mark = 0;

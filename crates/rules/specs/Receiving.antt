@@ -12,6 +12,8 @@ use Rattle.rules.specs.Layout.{isUnsegmented, fieldsOf, readingChecks}
 use Rattle.rules.specs.Records.{delivered, lost, recordLength, zeroFilled, recordsOctets}
 use Rattle.rules.specs.Places.{freePlace, placeOf, lowestFree, isAt, numberOf, placeAt, putPlace}
 use Rattle.rules.specs.Soundness.{sound}
+use Rattle.rules.specs.declared.Address.{Address}
+use Rattle.rules.specs.declared.Span.{Span}
 use Rattle.rules.specs.declared.Key.{Key}
 use Rattle.rules.specs.declared.Place.{Place}
 use Rattle.rules.specs.declared.Table.{Table}
@@ -27,15 +29,18 @@ use Rattle.rules.specs.declared.Decision.{Decision}
 use Rattle.rules.specs.declared.Decision.the-variants.{Refused, Saved, Delivered, Lost}
 use Rattle.rules.specs.declared.Received.{Received}
 
--- a sequence's key is association, context, originating address (length and octets) and reference; the destination address is read and passed over
+-- the address that stands somewhere in a parameter
+abbrev pub addressAt : List ℕ → Span → Address
+addressAt s a = record { octets = zeroFilled (take (a .length) (drop (a .at) s)); length = a .length }
+
+-- a sequence's key is association, context, originating address and reference; the destination address is read and passed over
 abbrev pub keyOf : ℕ → List ℕ → Fields → Key
 keyOf association s f =
     record {
-      address = zeroFilled (take (f .length) (drop (f .origin) s));
       association = association;
       context = f .heading .context;
+      origin = addressAt s (f .origin);
       reference = f .heading .reference;
-      length = f .length;
     }
 
 -- application information is handed on as the tail of the parameter

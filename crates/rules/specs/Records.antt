@@ -1,9 +1,11 @@
 -- Section 'Records and other house octets': Delivered is kind 16, Lost is kind 17. Numbers are most significant octet first.
-use Prim.Native.Nat.{ℕ, zero, suc, _-_}
+use Prim.Native.Nat.{ℕ, zero, suc, _+_, _-_}
+use mathlib.Core.Path.{_≡_}
 use mathlib.Core.List.{List, [], _∷_, _++_}
 use lib.ListN.{length, take, drop, getD, replicate}
 use Rattle.octets.specs.Number.{number, bigEndian}
 use Rattle.rules.specs.Numbers.{addressMost}
+use Rattle.rules.specs.declared.Address.{Address}
 use Rattle.rules.specs.declared.Record.{Record}
 
 abbrev pub delivered : ℕ
@@ -16,11 +18,25 @@ lost = 17
 abbrev pub recordLength : ℕ
 recordLength = 32
 
--- an address, zero filled
+-- octets as an address: zero filled, and with their length
 abbrev pub zeroFilled : List ℕ → List ℕ
-zeroFilled address = address ++ replicate (addressMost - length address) 0
+zeroFilled octets = octets ++ replicate (addressMost - length octets) 0
 
--- kind 1; association 2, context 2, reference 1, instruction 1, cause 1, segments 1, octets 2, originating length 1, originating address 20
+abbrev pub addressOf : List ℕ → Address
+addressOf octets = record { octets = zeroFilled octets; length = length octets }
+
+-- what its type says of an address: 20 octets
+abbrev pub Filled : Address → Type 0
+Filled a = length (a .octets) ≡ addressMost
+
+-- an address in a record: length 1, octets 20; and the one that begins at a position
+abbrev pub recorded : Address → List ℕ
+recorded a = a .length ∷ a .octets
+
+abbrev pub recordedAt : List ℕ → ℕ → Address
+recordedAt l at = record { octets = take addressMost (drop (at + 1) l); length = getD l at 0 }
+
+-- kind 1; association 2, context 2, reference 1, instruction 1, cause 1, segments 1, octets 2, originating address
 unfoldable pub recordOctets : Record → List ℕ
 recordOctets r =
     (r .kind ∷ [])
@@ -28,18 +44,17 @@ recordOctets r =
     ++ bigEndian 2 (r .key .context .0)
     ++ (r .key .reference .0 ∷ r .instruction ∷ r .cause ∷ r .segments ∷ [])
     ++ bigEndian 2 (r .octets)
-    ++ (r .key .length ∷ r .key .address)
+    ++ recorded (r .key .origin)
 
 -- the record that 32 octets are
 unfoldable pub recordFrom : List ℕ → Record
 recordFrom l =
     record {
       key = record {
-        address = take addressMost (drop 12 l);
         association = number (getD l 1 0 ∷ getD l 2 0 ∷ []);
         context = record { 0 = number (getD l 3 0 ∷ getD l 4 0 ∷ []) };
+        origin = recordedAt l 11;
         reference = record { 0 = getD l 5 0 };
-        length = getD l 11 0;
       };
       octets = number (getD l 9 0 ∷ getD l 10 0 ∷ []);
       kind = getD l 0 0;

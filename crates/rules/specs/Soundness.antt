@@ -8,6 +8,7 @@ use Rattle.rules.specs.General.{every, everyTwo}
 use Rattle.rules.specs.Numbers.{timerInRange, referenceMost, instructionMost, segmentsMost, dataMost, addressMost, elapsed}
 use Rattle.rules.specs.Registry.{kindOf, registrySound}
 use Rattle.rules.specs.Places.{sameKey, isOpen, isFree}
+use Rattle.rules.specs.declared.Address.{Address}
 use Rattle.rules.specs.declared.Entry.{Entry}
 use Rattle.rules.specs.declared.Place.{Place}
 use Rattle.rules.specs.declared.Table.{Table}
@@ -16,11 +17,15 @@ abbrev pub isZero : ℕ → Bool
 isZero x = eqb x 0
 
 -- address to 20, zero filled and empty for 1998
-abbrev pub addressSound : ℕ → Place → Bool
-addressSound kind p =
-    leb (p .key .length) addressMost
-    && every isZero (drop (p .key .length) (p .key .address))
-    && (not (eqb kind 1) || isZero (p .key .length))
+unfoldable pub addressSound : ℕ → Address → Bool
+addressSound kind a =
+    leb (a .length) addressMost
+    && every isZero (drop (a .length) (a .octets))
+    && (not (eqb kind 1) || isZero (a .length))
+
+-- all zero
+abbrev pub addressZero : Address → Bool
+addressZero a = isZero (a .length) && every isZero (a .octets)
 
 -- each open place has a registered context, reference to 127, instruction to 3, remaining 1 to 9, at least one segment, segments plus remaining at
 -- most 10, octets to 2,048, address as above, age below T
@@ -34,7 +39,7 @@ openSound registry timer clock p =
     && leb 1 (p .segments)
     && leb (p .segments + p .remaining .0) segmentsMost
     && leb (p .octets) dataMost
-    && addressSound (kindOf registry (p .key .context .0)) p
+    && addressSound (kindOf registry (p .key .context .0)) (p .key .origin)
     && ltb (elapsed clock (p .start)) timer
 
 -- free places are all zero
@@ -43,13 +48,12 @@ freeSound p =
     isZero (p .key .association)
     && isZero (p .key .context .0)
     && isZero (p .key .reference .0)
-    && isZero (p .key .length)
     && isZero (p .octets)
     && isZero (p .start)
     && isZero (p .instruction)
     && isZero (p .remaining .0)
     && isZero (p .segments)
-    && every isZero (p .key .address)
+    && addressZero (p .key .origin)
 
 abbrev pub placeSound : List Entry → ℕ → ℕ → Place → Bool
 placeSound registry timer clock p = (isOpen p && openSound registry timer clock p) || (isFree p && freeSound p)

@@ -35,14 +35,20 @@ pub struct Reference(pub u8);
 #[repr(C)]
 pub struct Context(pub u16);
 
-// What names a sequence. The originating address is its length and its octets, zero filled.
+// An address: its octets, zero filled, and its length. Both tell addresses apart.
+#[repr(C)]
+pub struct Address {
+    pub octets: [u8; ADDRESS],
+    pub length: u8,
+}
+
+// What names a sequence.
 #[repr(C)]
 pub struct Key {
-    pub address: [u8; ADDRESS],
     pub association: u16,
     pub context: Context,
+    pub origin: Address,
     pub reference: Reference,
-    pub length: u8,
 }
 
 // One sequence. mark is 1 where it is open; a free place is all zero. start is the time of the first segment.
@@ -93,11 +99,16 @@ pub struct Heading {
     pub reference: Reference,
 }
 
-// The fields of a parameter. The originating address and the information stay where they are in it.
+// An address where it stands in a parameter: the position of its first octet, and its length.
+pub struct Span {
+    pub at: usize,
+    pub length: u8,
+}
+
+// The fields of a parameter. The addresses and the information stay where they are in it.
 pub struct Fields {
     pub heading: Heading,
-    pub origin: usize,
-    pub length: u8,
+    pub origin: Span,
     pub information: usize,
 }
 

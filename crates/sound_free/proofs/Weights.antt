@@ -10,7 +10,8 @@ use lib.Dec.{eqb}
 use lib.ListN.{length, drop, getD, drop-of-length-le}
 use Rattle.rules.specs.General.{every}
 use Rattle.rules.specs.Places.{isFree}
-use Rattle.rules.specs.Soundness.{isZero, freeSound}
+use Rattle.rules.specs.Soundness.{isZero, addressZero, freeSound}
+use Rattle.rules.specs.declared.Address.{Address}
 use Rattle.rules.specs.declared.Place.{Place}
 use Rattle.rules.proofs.Lists.{left}
 use Rattle.rules.proofs.Nought.{sum-nought}
@@ -55,49 +56,49 @@ module _ (a : List ℕ) where
       (simp (and-true, and-assoc))
 
 -- the numbers of a place, in the order of the sum and in that of the rules
-in-order : (address association context reference length octets start mark instruction remaining segments : Bool)
-    → (address && (association && context) && (reference && length && octets) && start && (mark && instruction && remaining && segments))
-    ≡ (mark && (association && context && reference && length && octets && start && instruction && remaining && segments && address))
-in-order false a c r l o s m i n k = sym (rw and-false (and-false m))
-in-order true false c r l o s m i n k = sym (and-false m)
-in-order true true false r l o s m i n k = sym (and-false m)
-in-order true true true false l o s m i n k = sym (and-false m)
-in-order true true true true false o s m i n k = sym (and-false m)
-in-order true true true true true false s m i n k = sym (and-false m)
-in-order true true true true true true false m i n k = sym (and-false m)
-in-order true true true true true true true false i n k = refl
-in-order true true true true true true true true i n k = sym (and-true (i && n && k))
+in-order : (association context reference octets start mark instruction remaining segments origin : Bool)
+    → ((association && context) && (reference && octets) && start && (mark && instruction && remaining && segments) && origin)
+    ≡ (mark && (association && context && reference && octets && start && instruction && remaining && segments && origin))
+in-order false c r o s m i n k x = sym (and-false m)
+in-order true false r o s m i n k x = sym (and-false m)
+in-order true true false o s m i n k x = sym (and-false m)
+in-order true true true false s m i n k x = sym (and-false m)
+in-order true true true true false m i n k x = sym (and-false m)
+in-order true true true true true false i n k x = refl
+in-order true true true true true true i n k x = refl
 
--- what a place weighs, with a weight a for its address and w for its word
-pub weight-nought : (p : Place) (a w : ℕ) → eqb a 0 ≡ every isZero (p .key .address)
+-- an address, with a weight w for its octets
+pub address-nought : (a : Address) (w : ℕ) → eqb w 0 ≡ every isZero (a .octets) → eqb (a .length + w) 0 ≡ addressZero a
+address-nought a w e = sum-nought (a .length) w ∙ rw e
+
+-- what a place weighs, with a weight o for its origin and w for its word
+pub weight-nought : (p : Place) (o w : ℕ) → eqb o 0 ≡ addressZero (p .key .origin)
     → eqb w 0 ≡ (isFree p && isZero (p .instruction) && isZero (p .remaining .0) && isZero (p .segments))
     → eqb
-    (a
-    + (p .key .association + 65536 * p .key .context .0)
-    + (p .key .reference .0 + 256 * p .key .length + 65536 * p .octets)
+    (p .key .association + 65536 * p .key .context .0
+    + (p .key .reference .0 + 65536 * p .octets)
     + p .start
-    + w)
+    + w
+    + o)
     0
     ≡ (isFree p && freeSound p)
 unfolding freeSound
-weight-nought p a w ea ew =
+weight-nought p o w eo ew =
     simp (
       sum-nought,
       times-nought 65536 (p .key .context .0) (omega arith),
-      times-nought 256 (p .key .length) (omega arith),
       times-nought 65536 (p .octets) (omega arith),
-      ea,
+      eo,
       ew,
     )
     (in-order
-    (every isZero (p .key .address))
     (isZero (p .key .association))
     (isZero (p .key .context .0))
     (isZero (p .key .reference .0))
-    (isZero (p .key .length))
     (isZero (p .octets))
     (isZero (p .start))
     (isFree p)
     (isZero (p .instruction))
     (isZero (p .remaining .0))
-    (isZero (p .segments)))
+    (isZero (p .segments))
+    (addressZero (p .key .origin)))

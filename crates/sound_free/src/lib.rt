@@ -1,5 +1,6 @@
 // Whether the places that are not open are sound: by weights. The weight of a place is the sum of all its octets and numbers, read as numbers of four octets, so it is 0 exactly
-// where all of them are. A place has nine such numbers at most, each below 2^32, so the sum of 16 places' weights is below 2^40 and cannot wrap.
+// where all of them are. A place has ten such numbers at most, each below 2^32, so the sum of 16 places' weights is below 2^40 and cannot wrap.
+use rules::Address;
 use rules::Place;
 ghost use mathlib.Core.Path.{_≡_};
 ghost use mathlib.Core.Bool.{_&&_};
@@ -7,9 +8,9 @@ ghost use Prim.Native.Nat.{_*_, _≤_};
 ghost use lib.Dec.{eqb};
 ghost use Rattle.rules.specs.General.{every};
 ghost use Rattle.rules.specs.Places.{isFree};
-ghost use Rattle.rules.specs.Soundness.{isZero, freeSound};
+ghost use Rattle.rules.specs.Soundness.{isZero, addressZero, freeSound};
 ghost use Rattle.sound_free.specs.Idle.{soundIfIdle};
-ghost use Rattle.sound_free.specs.Weights.{wordOf, wordMost};
+ghost use Rattle.sound_free.specs.Weights.{wordOf, wordMost, addressMost, placeMost};
 
 // Four octets as one number, the first the least: where they stand in a row they are read at once.
 pub fn word(a: u8, b: u8, c: u8, d: u8) -> u64
@@ -20,8 +21,8 @@ pub fn word(a: u8, b: u8, c: u8, d: u8) -> u64
     (a as u64) + 256 * (b as u64) + 65536 * (c as u64) + 16777216 * (d as u64)
 }
 
-// What an address weighs: 0 where all its octets are.
-fn address_weight(a: [u8; 20]) -> u64
+// What an address's octets weigh: 0 where all of them are.
+fn octets_weight(a: [u8; 20]) -> u64
     ensures { λ r. ⌜ eqb r 0 ≡ every isZero a ⌝ }
     ensures { λ r. ⌜ r ≤ 5 * wordMost ⌝ }
 {
@@ -32,22 +33,31 @@ fn address_weight(a: [u8; 20]) -> u64
         + word(a[16], a[17], a[18], a[19])
 }
 
+// What an address weighs: 0 where it is all zero.
+fn address_weight(a: Address) -> u64
+    ensures { λ r. ⌜ eqb r 0 ≡ addressZero a ⌝ }
+    ensures { λ r. ⌜ r ≤ addressMost ⌝ }
+{
+    let octets = a.octets;
+    (a.length as u64) + octets_weight(octets)
+}
+
 // What a place weighs: 0 where it is free, and all zero.
 fn weight(p: Place) -> u64
     ensures { λ r. ⌜ eqb r 0 ≡ (isFree p && freeSound p) ⌝ }
-    ensures { λ r. ⌜ r ≤ 9 * wordMost ⌝ }
+    ensures { λ r. ⌜ r ≤ placeMost ⌝ }
 {
-    let address = p.key.address;
+    let origin = p.key.origin;
     let names = (p.key.association as u64) + 65536 * (p.key.context.0 as u64);
-    let more = (p.key.reference.0 as u64) + 256 * (p.key.length as u64) + 65536 * (p.octets as u64);
+    let more = (p.key.reference.0 as u64) + 65536 * (p.octets as u64);
     let rest = word(p.mark, p.instruction, p.remaining.0, p.segments);
-    address_weight(address) + names + more + (p.start as u64) + rest
+    names + more + (p.start as u64) + rest + address_weight(origin)
 }
 
 // What a place weighs where it is not open.
 fn idle_weight(p: Place) -> u64
     ensures { λ r. ⌜ eqb r 0 ≡ soundIfIdle p ⌝ }
-    ensures { λ r. ⌜ r ≤ 9 * wordMost ⌝ }
+    ensures { λ r. ⌜ r ≤ placeMost ⌝ }
 {
     let w = weight(p);
     if p.mark == 1 {

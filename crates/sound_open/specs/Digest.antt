@@ -2,6 +2,6 @@
 use Prim.Native.Nat.{ℕ, _+_, _*_}
 use Rattle.rules.specs.declared.Place.{Place}
 
--- of the key all but the address
+-- of the key all but the octets of an address
 abbrev pub digest : Place → ℕ
-digest p = (p .key .association * 65536 + p .key .context .0) * 65536 + (p .key .reference .0 * 256 + p .key .length)
+digest p = (p .key .association * 65536 + p .key .context .0) * 65536 + (p .key .reference .0 * 256 + p .key .origin .length)

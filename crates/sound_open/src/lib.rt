@@ -1,4 +1,5 @@
 // Whether the open places are sound, and their digests.
+use rules::Address;
 use rules::Entry;
 use rules::Place;
 ghost use mathlib.Core.Path.{_≡_};
@@ -51,13 +52,12 @@ fn zero_from(a: [u8; 20], n: u8) -> bool
 }
 
 // Whether an open place's address is to 20, zero filled, and empty for 1998.
-fn address_sound(kind: u8, p: Place) -> bool
-    ensures { λ r. ⌜ r ≡ addressSound kind p ⌝ }
+fn address_sound(kind: u8, a: Address) -> bool
+    ensures { λ r. ⌜ r ≡ addressSound kind a ⌝ }
 {
-    let length = p.key.length;
-    let address = p.key.address;
-    let filled = zero_from(address, length);
-    (length <= 20) & filled & (!(kind == 1) | (length == 0))
+    let octets = a.octets;
+    let filled = zero_from(octets, a.length);
+    (a.length <= 20) & filled & (!(kind == 1) | (a.length == 0))
 }
 
 // Whether an open place is sound.
@@ -75,9 +75,10 @@ fn open_sound(registry: [Entry; 8], timer: u32, clock: u32, p: Place) -> bool
         & (1 <= p.segments)
         & (sum <= 10)
         & (p.octets <= 2048);
-    let address = address_sound(kind, p);
+    let origin = p.key.origin;
+    let addressed = address_sound(kind, origin);
     let young = table::elapsed(clock, p.start) < timer;
-    numbers & address & young
+    numbers & addressed & young
 }
 
 // What is seen of the open places: their digests, one after the other, and whether each is sound.
@@ -87,12 +88,12 @@ pub struct Seen {
     pub sound: bool,
 }
 
-// What tells most open places apart, as one number: of the key all but the address.
+// What tells most open places apart, as one number: of the key all but the octets of an address.
 fn digest_of(p: Place) -> u64
     ensures { λ r. ⌜ r ≡ digest p ⌝ }
 {
     let names = (p.key.association as u64) * 65536 + (p.key.context.0 as u64);
-    let rest = (p.key.reference.0 as u64) * 256 + (p.key.length as u64);
+    let rest = (p.key.reference.0 as u64) * 256 + (p.key.origin.length as u64);
     names * 65536 + rest
 }
 

@@ -1,4 +1,5 @@
 // Places of a table: which has a key, which is free; and ages.
+use rules::Address;
 use rules::Context;
 use rules::Found;
 use rules::Key;
@@ -8,7 +9,7 @@ use rules::Remaining;
 ghost use mathlib.Core.Path.{_≡_};
 ghost use Prim.Native.Nat.{_≤_};
 ghost use Rattle.rules.specs.Numbers.{elapsed};
-ghost use Rattle.rules.specs.Places.{sameOctets, sameKey, holds, placeOf, lowestFree, freePlace, foundAt};
+ghost use Rattle.rules.specs.Places.{sameOctets, sameAddress, sameKey, holds, placeOf, lowestFree, freePlace, foundAt};
 ghost use Rattle.table.specs.Seeking.{soonerOf, Points};
 
 // The new time less the old, modulo 2^32: an age, and a step of the clock.
@@ -32,18 +33,29 @@ fn same_octets(a: [u8; 20], b: [u8; 20]) -> bool
     true
 }
 
+// Whether two addresses are the same: as long, and with the same octets.
+fn same_address(a: Address, b: Address) -> bool
+    ensures { λ r. ⌜ r ≡ sameAddress a b ⌝ }
+{
+    if a.length == b.length {
+        let x = a.octets;
+        let y = b.octets;
+        return same_octets(x, y);
+    }
+    false
+}
+
 // Whether two keys are the same: nothing else compares keys.
 pub fn same_key(a: Key, b: Key) -> bool
     ensures { λ r. ⌜ r ≡ sameKey a b ⌝ }
 {
     let numbers = (a.association == b.association)
         & (a.context.0 == b.context.0)
-        & (a.reference.0 == b.reference.0)
-        & (a.length == b.length);
+        & (a.reference.0 == b.reference.0);
     if numbers {
-        let x = a.address;
-        let y = b.address;
-        return same_octets(x, y);
+        let x = a.origin;
+        let y = b.origin;
+        return same_address(x, y);
     }
     false
 }
@@ -141,11 +153,13 @@ pub fn free_place() -> Place
 {
     Place {
         key: Key {
-            address: [0; 20],
             association: 0,
             context: Context(0),
+            origin: Address {
+                octets: [0; 20],
+                length: 0,
+            },
             reference: Reference(0),
-            length: 0,
         },
         octets: 0,
         start: 0,

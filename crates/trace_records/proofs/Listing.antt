@@ -11,12 +11,13 @@ use lib.Seq.{drop-cons, drop-drop, length-take-le}
 use Rattle.octets.specs.Splice.{splice}
 use Rattle.octets.proofs.Splice.{splice-is}
 use Rattle.rules.specs.General.{if_then_else_, those}
-use Rattle.rules.specs.Records.{recordLength, recordFrom, recordsFrom}
+use Rattle.rules.specs.Records.{recordedAt, recordFrom, recordsFrom}
 use Rattle.rules.specs.Numbers.{addressMost}
 use Rattle.octets.specs.Number.{number}
 use Rattle.rules.specs.Places.{isOpen}
-use Rattle.rules.specs.Listing.{hexOf, originWord, recordLine, recordLines, linesBehind, openLines}
+use Rattle.rules.specs.Listing.{hexOf, addressWord, recordLine, recordLines, linesBehind, openLines}
 use Rattle.rules.specs.Sweep.{lossOf}
+use Rattle.rules.specs.declared.Address.{Address}
 use Rattle.rules.specs.declared.Place.{Place}
 use Rattle.rules.specs.declared.Record.{Record}
 use Rattle.trace_records.specs.Listing.{namedFields, countFields}
@@ -27,16 +28,16 @@ splice-whole xs ys e =
     splice-is xs 0 ys (omega arith) ∙ rw (zero-add (length ys), drop-of-length-le xs {i = length ys} (omega arith)) (append-nil ys)
 
 -- the record that 32 octets are, field by field
-pub address-is : (l part address : List ℕ) → length l ≡ recordLength → part ≡ take addressMost (drop 12 l) → address ≡ splice (replicate addressMost 0) 0 part
-    → address ≡ take addressMost (drop 12 l)
-address-is l part address n e a =
-    let d = length-drop 12 l in
-    a ∙ rw e (splice-whole (replicate addressMost 0) (take addressMost (drop 12 l)) (length-take-le addressMost (drop 12 l) (omega arith)))
+pub address-is : (l part octets : List ℕ) (at : ℕ) → at + 21 ≤ length l → part ≡ take addressMost (drop (at + 1) l) → octets ≡ splice (replicate addressMost 0) 0 part
+    → record { octets = octets; length = getD l at 0 } ≡ recordedAt l at
+address-is l part octets at n e a =
+    let d = length-drop (at + 1) l in
+    rw (a, e, splice-whole (replicate addressMost 0) (take addressMost (drop (at + 1) l)) (length-take-le addressMost (drop (at + 1) l) (omega arith)))
 
-pub record-is : (l address : List ℕ) (association context octets : ℕ) → address ≡ take addressMost (drop 12 l) → association ≡ number (getD l 1 0 ∷ getD l 2 0 ∷ [])
+pub record-is : (l : List ℕ) (origin : Address) (association context octets : ℕ) → origin ≡ recordedAt l 11 → association ≡ number (getD l 1 0 ∷ getD l 2 0 ∷ [])
     → context ≡ number (getD l 3 0 ∷ getD l 4 0 ∷ []) → octets ≡ number (getD l 9 0 ∷ getD l 10 0 ∷ [])
     → record {
-      key = record { address = address; association = association; context = record { 0 = context }; reference = record { 0 = getD l 5 0 }; length = getD l 11 0 };
+      key = record { association = association; context = record { 0 = context }; origin = origin; reference = record { 0 = getD l 5 0 } };
       octets = octets;
       kind = getD l 0 0;
       instruction = getD l 6 0;
@@ -45,7 +46,7 @@ pub record-is : (l address : List ℕ) (association context octets : ℕ) → ad
     }
     ≡ recordFrom l
 unfolding recordFrom
-record-is l address association context octets e f g h = rw (e, f, g, h)
+record-is l origin association context octets e f g h = rw (e, f, g, h)
 
 -- octets in hex, the one at i first
 pub hex-next : (l : List ℕ) (i : ℕ) → i < length l → hexOf (drop i l) ≡ hexOf (getD l i 0 ∷ []) ++ hexOf (drop (i + 1) l)
@@ -71,9 +72,9 @@ pub open-at : (word : List ℕ) (ps : List Place) (p : Place) (i : ℕ) → i < 
 open-at word ps p i h = rw (drop-cons ps i p h, native.Mathlib.Numerals.add-one) (open-next word (getD ps i p) (drop (suc i) ps))
 
 -- a record's line is its three parts
-pub line-is : (word : List ℕ) (r : Record) → namedFields word (r .key) ++ countFields r ++ (32 ∷ originWord (r .key .length) (r .key .address)) ++ (10 ∷ []) ≡ recordLine word r
+pub line-is : (word : List ℕ) (r : Record) → namedFields word (r .key) ++ countFields r ++ (32 ∷ addressWord (r .key .origin)) ++ (10 ∷ []) ≡ recordLine word r
 unfolding recordLine
-line-is word r = ap (λ (l : List ℕ). l ++ (32 ∷ originWord (r .key .length) (r .key .address)) ++ (10 ∷ [])) (four (namedFields word (r .key)) _ _ _ _)
+line-is word r = ap (λ (l : List ℕ). l ++ (32 ∷ addressWord (r .key .origin)) ++ (10 ∷ [])) (four (namedFields word (r .key)) _ _ _ _)
   where
     four : (n a b c d : List ℕ) → n ++ (a ++ b ++ c ++ d) ≡ n ++ a ++ b ++ c ++ d
     four n a b c d = rw (← append-assoc n (a ++ b ++ c) d, ← append-assoc n (a ++ b) c, ← append-assoc n a b)

@@ -1,4 +1,5 @@
 // The lines of the program records, written into a lent area: an event's, a record's, and those of sequences that are open and have no record.
+use rules::Address;
 use rules::Context;
 use rules::Decision;
 use rules::Key;
@@ -12,24 +13,35 @@ ghost use Prim.Native.Nat.{_+_, _*_, _≤_};
 ghost use lib.ListN.{length, take, drop};
 ghost use Rattle.octets.specs.Splice.{Wrote};
 ghost use Rattle.rules.specs.Places.{isOpen};
-ghost use Rattle.rules.specs.Records.{recordLength, recordFrom, recordsFrom};
+ghost use Rattle.rules.specs.Records.{recordLength, recordedAt, recordFrom, recordsFrom};
 ghost use Rattle.rules.specs.Sweep.{lossOf};
-ghost use Rattle.rules.specs.Listing.{hexDigit, hexOf, referenceWord, originWord, recordLine, recordWord, recordLines, openLines, endWord, heldWord};
+ghost use Rattle.rules.specs.Listing.{hexDigit, hexOf, referenceWord, addressWord, recordLine, recordWord, recordLines, openLines, endWord, heldWord};
 ghost use Rattle.trace_records.specs.Listing.{namedFields, countFields, lineFor, listingFor, endFor};
+
+// The address that a record has at a position.
+fn address_in(l: &[u8], at: usize) -> Address
+    requires { ⌜ (at ≤ 100) × (at + 21 ≤ length (now l)) ⌝ }
+    ensures { λ r. ⌜ r ≡ recordedAt (now (l .entry)) at ⌝ }
+{
+    let mut octets = [0; 20];
+    octets::put(&mut octets, octets::part(l, at + 1, 20));
+    Address {
+        octets,
+        length: l[at],
+    }
+}
 
 // The record that 32 octets are.
 fn record_of(l: &[u8]) -> Record
     requires { ⌜ length (now l) ≡ recordLength ⌝ }
     ensures { λ r. ⌜ r ≡ recordFrom (now (l .entry)) ⌝ }
 {
-    let mut address = [0; 20];
-    octets::put(&mut address, octets::part(l, 12, 20));
+    let origin = address_in(l, 11);
     let key = Key {
-        address,
         association: octets::number2(l[1], l[2]),
         context: Context(octets::number2(l[3], l[4])),
+        origin,
         reference: Reference(l[5]),
-        length: l[11],
     };
     Record {
         key,
@@ -76,19 +88,19 @@ fn put_hex(out: &mut [u8], at: usize, octets: &[u8]) -> usize
     next
 }
 
-// A space, and an originating address or a dash: its octets, as many as its length says.
-fn put_origin(out: &mut [u8], at: usize, key: Key) -> usize
+// A space, and an address or a dash: its octets, as many as its length says.
+fn put_address(out: &mut [u8], at: usize, a: Address) -> usize
     requires { ⌜ at ≤ 50000 ⌝ }
-    ensures { λ r. ⌜ Wrote (now (out .entry)) at (32 ∷ originWord (key .length) (key .address)) (now (out .exit)) r ⌝ }
+    ensures { λ r. ⌜ Wrote (now (out .entry)) at (32 ∷ addressWord a) (now (out .exit)) r ⌝ }
     ensures { λ r. ⌜ r ≤ at + 41 ⌝ }
 {
     let next = trace_lines::put_octet(out, at, 32);
-    let n = key.length as usize;
+    let n = a.length as usize;
     if n == 0 {
         return trace_lines::put_octet(out, next, 45);
     }
-    let address = key.address;
-    put_hex(out, next, octets::part(&address, 0, n))
+    let octets = a.octets;
+    put_hex(out, next, octets::part(&octets, 0, n))
 }
 
 // A space, and a reference or a dash.
@@ -104,7 +116,7 @@ fn put_reference(out: &mut [u8], at: usize, reference: u8) -> usize
     trace_lines::put_number(out, next, reference as u64)
 }
 
-// A word, and what names a sequence but for its originating address.
+// A word, and what names a sequence but for its addresses.
 fn put_named(out: &mut [u8], at: usize, word: &[u8], key: Key) -> usize
     requires { ⌜ (at ≤ 10000) × (length (now word) ≤ 9) ⌝ }
     ensures { λ r. ⌜ Wrote (now (out .entry)) at (namedFields (now (word .entry)) key) (now (out .exit)) r ⌝ }
@@ -137,7 +149,8 @@ fn put_record(out: &mut [u8], at: usize, word: &[u8], r: Record) -> usize
     let key = r.key;
     let a = put_named(out, at, word, key);
     let b = put_counts(out, a, r);
-    let c = put_origin(out, b, key);
+    let origin = key.origin;
+    let c = put_address(out, b, origin);
     trace_lines::put_octet(out, c, 10)
 }
 

@@ -1,6 +1,5 @@
 -- The head and the address, one after the other, are the record.
 use mathlib.Core.Path.{refl}
-use native.Mathlib.Omega.{arith}
 use lib.ListN.{take}
 use Rattle.octets.specs.Splice.{Wrote}
 use Rattle.octets.proofs.Splice.{wrote-then}
@@ -19,14 +18,11 @@ slice-aggregate-put-at c = search needs
 put-at-requires : tie.Need-put-at-requires
 put-at-requires c κs = search needs
 
-add-put-at : tie.Need-add-put-at
-add-put-at c = search needs
+add-put-address : tie.Need-add-put-address
+add-put-address c = search needs
 
-slice-aggregate-put-at-2 : tie.Need-slice-aggregate-put-at-2
-slice-aggregate-put-at-2 c = search needs
-
-put-at-requires-2 : tie.Need-put-at-requires-2
-put-at-requires-2 c κs = search needs
+put-address-requires : tie.Need-put-address-requires
+put-address-requires c κs = search needs
 
 same-length : tie.Need-same-length
 same-length c = search needs
@@ -35,11 +31,10 @@ returns : tie.Need-returns
 unfolding recordOctets
 returns c =
     let p = c .before .before in
-    let q = p .before .before .before .before .before .before in
+    let q = p .before .before .before .before .before in
     let s = q .before .before .before .before .before in
-    let n = slice-aggregate-put-at-2 (p .before) in
-    let f : Wrote _ (s .args .at) (take 12 (recordOctets (s .args .r))) _ _ = record { place = refl; stored = rw (q .before .before .before .head .ensures) at (q .put-at .ensures) } in
-    (wrote-then f (record { place = refl; stored = p .put-at2 .ensures }) .stored, record-length (s .args .r) (omega arith))
+    let f : Wrote _ (s .args .at) (take 11 (recordOctets (s .args .r))) _ _ = record { place = refl; stored = rw (q .before .before .before .head .ensures) at (q .put-at .ensures) } in
+    (wrote-then f (record { place = refl; stored = p .put-address .ensures .0 }) .stored, record-length (s .args .r) (p .put-address .ensures .1))
 
 pub put-record-spec : {M : Type 1} → statement M
 put-record-spec =
@@ -48,8 +43,7 @@ put-record-spec =
     head-requires
     slice-aggregate-put-at
     put-at-requires
-    add-put-at
-    slice-aggregate-put-at-2
-    put-at-requires-2
+    add-put-address
+    put-address-requires
     same-length
     returns)

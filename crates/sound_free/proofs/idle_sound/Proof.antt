@@ -8,14 +8,14 @@ use borrow.Author.Needs.{needs}
 use Rattle.rules.specs.General.{every}
 use Rattle.rules.specs.Places.{noPlace}
 use Rattle.rules.proofs.Along.{every-so-far, every-over}
-use Rattle.sound_free.specs.Weights.{wordMost}
+use Rattle.sound_free.specs.Weights.{placeMost}
 use Rattle.sound_free.specs.Idle.{soundIfIdle}
 use Rattle.rules.proofs.Nought.{sum-nought}
 use Rattle.sound_free.proofs.idle_sound.Statement.{statement}
 use Rattle.sound_free.proofs.idle_sound.Tie as tie
 
 abbrev Inv-loop : tie.InvT-loop
-Inv-loop places sum₀ i₀ sum i = (every soundIfIdle places ≡ (eqb sum 0 && every soundIfIdle (drop i places))) × (sum ≤ 9 * wordMost * i)
+Inv-loop places sum₀ i₀ sum i = (every soundIfIdle places ≡ (eqb sum 0 && every soundIfIdle (drop i places))) × (sum ≤ placeMost * i)
 
 abbrev μ-loop : tie.MeasureT-loop
 μ-loop places sum₀ i₀ sum i = 16 - i

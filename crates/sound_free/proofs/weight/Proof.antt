@@ -28,44 +28,34 @@ mul-more c = search needs
 add-more : tie.Need-add-more
 add-more c = search needs
 
-cast-more-3 : tie.Need-cast-more-3
-cast-more-3 c = search needs
-
-mul-more-2 : tie.Need-mul-more-2
-mul-more-2 c = search needs
-
-add-more-2 : tie.Need-add-more-2
-add-more-2 c = search needs
-
 word-requires : tie.Need-word-requires
 word-requires c κs = search needs
-
-address-weight-requires : tie.Need-address-weight-requires
-address-weight-requires c κs = search needs
 
 add-result : tie.Need-add-result
 add-result c = search needs
 
-add-result-2 : tie.Need-add-result-2
-add-result-2 c = search needs
-
 cast-result : tie.Need-cast-result
 cast-result c = search needs
 
+add-result-2 : tie.Need-add-result-2
+add-result-2 c = search needs
+
 add-result-3 : tie.Need-add-result-3
 add-result-3 c = search needs
+
+address-weight-requires : tie.Need-address-weight-requires
+address-weight-requires c κs = search needs
 
 add-result-4 : tie.Need-add-result-4
 add-result-4 c = search needs
 
 returns : tie.Need-returns
 returns c =
-    let d = c .before in
-    let w = d .before in
-    let k = c .struct-known6 .given in
-    let p = w .before .before .before .before .before .before .before .args .p in (
-      weight-nought p (d .address-weight .result) (w .word .result) (d .address-weight .ensures .0) (w .word .ensures .1 .0),
-      omega (arith, d .address-weight .ensures .1, w .word .ensures .1 .1, k .0 .1 .0, k .0 .1 .1 .0, k .0 .1 .1 .1 .0, k .0 .1 .1 .1 .1 .0, k .1 .0, k .1 .1 .0),
+    let w = c .before .before in
+    let k = c .before .struct-known5 .given in
+    let p = w .before .before .before .before .before .before .args .p in (
+      weight-nought p (c .address-weight .result) (w .word .result) (c .address-weight .ensures .0) (w .word .ensures .1 .0),
+      omega (arith, c .address-weight .ensures .1, w .word .ensures .1 .1, k),
     )
 
 pub weight-spec : {M : Type 1} → statement M
@@ -80,14 +70,11 @@ weight-spec =
     cast-more-2
     mul-more
     add-more
-    cast-more-3
-    mul-more-2
-    add-more-2
     word-requires
-    address-weight-requires
     add-result
-    add-result-2
     cast-result
+    add-result-2
     add-result-3
+    address-weight-requires
     add-result-4
     returns)

@@ -23,7 +23,7 @@ elapsed-requires c κs = search needs
 
 returns : tie.Need-returns
 unfolding openSound
-returns c = rw (c .elapsed .ensures, c .before .address-sound .ensures, c .before .before .before .before .before .before .before .before .before .before .kind-of .ensures)
+returns c = rw (c .elapsed .ensures, c .before .address-sound .ensures, c .before .before .before .before .before .before .before .before .before .before .before .kind-of .ensures)
 
 pub open-sound-spec : {M : Type 1} → statement M
 open-sound-spec =

@@ -6,22 +6,16 @@ use borrow.Author.Needs.{needs}
 use Rattle.table.proofs.same_key.Statement.{statement}
 use Rattle.table.proofs.same_key.Tie as tie
 
-same-octets-requires : tie.Need-same-octets-requires
-same-octets-requires c κs = search needs
+same-address-requires : tie.Need-same-address-requires
+same-address-requires c κs = search needs
 
 returns : tie.Need-returns
 unfolding sameKey
-returns c =
-    let s = c .before .before .before in
-    let k = s .before .before .before .before .before .before .before .before .before .args in
-    let a = k .a in
-    let b = k .b in
-    let numbers : (eqb (a .association) (b .association) && eqb (a .context .0) (b .context .0) && eqb (a .reference .0) (b .reference .0) && eqb (a .length) (b .length)) ≡ true = s .if1 .taken in
-    c .same-octets .ensures ∙ simp numbers
+returns c = c .same-address .ensures ∙ simp (c .before .before .before .if1 .taken)
 
 returns-2 : tie.Need-returns-2
 unfolding sameKey
 returns-2 c = simp (c .if1 .left)
 
 pub same-key-spec : {M : Type 1} → statement M
-same-key-spec = tie.close (tie.spec same-octets-requires returns returns-2)
+same-key-spec = tie.close (tie.spec same-address-requires returns returns-2)

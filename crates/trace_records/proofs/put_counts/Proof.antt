@@ -26,7 +26,11 @@ cast-put-field-4 : tie.Need-cast-put-field-4
 cast-put-field-4 c = search needs
 
 put-field-requires-4 : tie.Need-put-field-requires-4
-put-field-requires-4 c κs = search needs
+put-field-requires-4 c κs =
+    let k = c .before .before .before .before in
+    let b = k .before .before .before .before .before in
+    let a = b .before .before .before .before .before in
+    omega (arith, a .before .before .before .before .pre, a .put-field .ensures .1, b .put-field2 .ensures .1, k .put-field3 .ensures .1)
 
 same-length : tie.Need-same-length
 same-length c = search needs

@@ -11,8 +11,8 @@ put-named-requires c κs = search needs
 put-counts-requires : tie.Need-put-counts-requires
 put-counts-requires c κs = search needs
 
-put-origin-requires : tie.Need-put-origin-requires
-put-origin-requires c κs = search needs
+put-address-requires : tie.Need-put-address-requires
+put-address-requires c κs = search needs
 
 put-octet-requires : tie.Need-put-octet-requires
 put-octet-requires c κs = search needs
@@ -24,10 +24,10 @@ returns : tie.Need-returns
 returns c =
     let o = c .before .before in
     let g = o .before .before .before .before in
-    let k = g .before .before .before .before in
+    let k = g .before .before .before .before .before in
     let n = k .before .before .before .before in
     let s = n .before .before .before .before .before in
-    (rw (← line-is (s .args .word .now) (s .args .r)) (wrote-then (wrote-then (wrote-then (n .put-named .ensures .0) (k .put-counts .ensures .0)) (g .put-origin .ensures .0)) (o .put-octet .ensures)), omega (arith, n .put-named .ensures .1, k .put-counts .ensures .1, g .put-origin .ensures .1, o .put-octet .ensures .place))
+    (rw (← line-is (s .args .word .now) (s .args .r)) (wrote-then (wrote-then (wrote-then (n .put-named .ensures .0) (k .put-counts .ensures .0)) (g .put-address .ensures .0)) (o .put-octet .ensures)), omega (arith, n .put-named .ensures .1, k .put-counts .ensures .1, g .put-address .ensures .1, o .put-octet .ensures .place))
 
 pub put-record-spec : {M : Type 1} → statement M
 put-record-spec =
@@ -35,7 +35,7 @@ put-record-spec =
     (tie.spec
     put-named-requires
     put-counts-requires
-    put-origin-requires
+    put-address-requires
     put-octet-requires
     same-length
     returns)

@@ -1,16 +1,10 @@
-use Rattle.trace_records.proofs.Listing.{address-is, record-is}
+use Rattle.trace_records.proofs.Listing.{record-is}
 use borrow.Author.Needs.{needs}
 use Rattle.trace_records.proofs.record_of.Statement.{statement}
 use Rattle.trace_records.proofs.record_of.Tie as tie
 
-slice-aggregate-put : tie.Need-slice-aggregate-put
-slice-aggregate-put c = search needs
-
-part-requires : tie.Need-part-requires
-part-requires c κs = search needs
-
-put-requires : tie.Need-put-requires
-put-requires c κs = search needs
+address-in-requires : tie.Need-address-in-requires
+address-in-requires c κs = search needs
 
 shared-slice-read-number2 : tie.Need-shared-slice-read-number2
 shared-slice-read-number2 c = search needs
@@ -30,9 +24,6 @@ shared-slice-read-number2-4 c = search needs
 number2-requires-2 : tie.Need-number2-requires-2
 number2-requires-2 c κs = search needs
 
-shared-slice-read-t21 : tie.Need-shared-slice-read-t21
-shared-slice-read-t21 c = search needs
-
 shared-slice-read-number2-5 : tie.Need-shared-slice-read-number2-5
 shared-slice-read-number2-5 c = search needs
 
@@ -45,47 +36,44 @@ shared-slice-read-number2-7 c = search needs
 number2-requires-3 : tie.Need-number2-requires-3
 number2-requires-3 c κs = search needs
 
-shared-slice-read-t21-2 : tie.Need-shared-slice-read-t21-2
-shared-slice-read-t21-2 c = search needs
+shared-slice-read-t8 : tie.Need-shared-slice-read-t8
+shared-slice-read-t8 c = search needs
 
 shared-slice-read-t13 : tie.Need-shared-slice-read-t13
 shared-slice-read-t13 c = search needs
 
-shared-slice-read-t18 : tie.Need-shared-slice-read-t18
-shared-slice-read-t18 c = search needs
+shared-slice-read-t11 : tie.Need-shared-slice-read-t11
+shared-slice-read-t11 c = search needs
 
-shared-slice-read-t16 : tie.Need-shared-slice-read-t16
-shared-slice-read-t16 c = search needs
+shared-slice-read-t24 : tie.Need-shared-slice-read-t24
+shared-slice-read-t24 c = search needs
 
 returns : tie.Need-returns
 returns c =
     let o = c .before .before .before .before in
-    let n = o .before .before .before .before .before in
+    let n = o .before .before .before .before in
     let a = n .before .before .before in
-    let p = a .before .before .before .before in
-    let s = p .before .before .before .before in
-    record-is (s .args .l .now) _ _ _ _ (address-is (s .args .l .now) _ _ (s .pre) (p .before .part .ensures) (p .put .ensures)) (a .number2 .ensures) (n .number22 .ensures) (o .number23 .ensures)
+    let p = a .before .before .before in
+    let s = p .before .before in
+    record-is (s .args .l .now) _ _ _ _ (p .address-in .ensures) (a .number2 .ensures) (n .number22 .ensures) (o .number23 .ensures)
 
 pub record-of-spec : {M : Type 1} → statement M
 record-of-spec =
     tie.close
     (tie.spec
-    slice-aggregate-put
-    part-requires
-    put-requires
+    address-in-requires
     shared-slice-read-number2
     shared-slice-read-number2-2
     number2-requires
     shared-slice-read-number2-3
     shared-slice-read-number2-4
     number2-requires-2
-    shared-slice-read-t21
     shared-slice-read-number2-5
     shared-slice-read-number2-6
     shared-slice-read-number2-7
     number2-requires-3
-    shared-slice-read-t21-2
+    shared-slice-read-t8
     shared-slice-read-t13
-    shared-slice-read-t18
-    shared-slice-read-t16
+    shared-slice-read-t11
+    shared-slice-read-t24
     returns)

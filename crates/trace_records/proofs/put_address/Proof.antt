@@ -3,8 +3,8 @@ use lib.ListN.{length-take}
 use borrow.Author.Tests.{eq-eqb, ne-eqb}
 use Rattle.octets.proofs.Splice.{wrote-then}
 use borrow.Author.Needs.{needs}
-use Rattle.trace_records.proofs.put_origin.Statement.{statement}
-use Rattle.trace_records.proofs.put_origin.Tie as tie
+use Rattle.trace_records.proofs.put_address.Statement.{statement}
+use Rattle.trace_records.proofs.put_address.Tie as tie
 
 put-octet-requires : tie.Need-put-octet-requires
 put-octet-requires c κs = search needs
@@ -46,8 +46,8 @@ returns-2 c =
     let o = t .before .before .before .before in
     (simp (ne-eqb _ 0 (t .if1 .left)) (rw (h .before .part .ensures) at (wrote-then (o .put-octet .ensures) (h .put-hex .ensures .0))), omega (arith, o .put-octet .ensures .place, h .put-hex .ensures .1))
 
-pub put-origin-spec : {M : Type 1} → statement M
-put-origin-spec =
+pub put-address-spec : {M : Type 1} → statement M
+put-address-spec =
     tie.close
     (tie.spec
     put-octet-requires
