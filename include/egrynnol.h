@@ -55,10 +55,10 @@
 
 /* ---- Versions ---- */
 
-#define EGRYNNOL_VERSION_MAJOR 2
-#define EGRYNNOL_VERSION_MINOR 1
+#define EGRYNNOL_VERSION_MAJOR 3
+#define EGRYNNOL_VERSION_MINOR 0
 #define EGRYNNOL_VERSION_PATCH 0
-#define EGRYNNOL_VERSION_STRING "2.1.0"
+#define EGRYNNOL_VERSION_STRING "3.0.0"
 
 /* One number for #if: 1002003 is 1.2.3. */
 #define EGRYNNOL_VERSION \
@@ -67,9 +67,9 @@
 /* The interface: it changes with every layout, call or number in this file that
  * an older host would misread (docs/MIGRATION.md). It is part of the calls'
  * symbols, so that a host compiled against another one does not link. */
-#define EGRYNNOL_INTERFACE 2
+#define EGRYNNOL_INTERFACE 3
 
-/* The symbol of a call: EGRYNNOL_SYMBOL("segment") is "egrynnol_2_segment". It is
+/* The symbol of a call: EGRYNNOL_SYMBOL("segment") is "egrynnol_3_segment". It is
  * for dlsym; a host that links uses the calls by their names. */
 #define EGRYNNOL_SYMBOL(call) "egrynnol_" EGRYNNOL_TEXT(EGRYNNOL_INTERFACE) "_" call
 #define EGRYNNOL_TEXT(number) EGRYNNOL_TEXT_OF(number)
@@ -116,8 +116,8 @@ extern "C" {
 
 /* The least lengths of the lent areas. */
 #define EGRYNNOL_STORE 32768        /* store: place p has the octets from 2048 x p on */
-#define EGRYNNOL_REPORT_SEGMENT 32  /* report of egrynnol_segment: 1 record */
-#define EGRYNNOL_REPORT_SWEEP 512   /* report of egrynnol_clock and egrynnol_release: 16 records */
+#define EGRYNNOL_REPORT_SEGMENT 53  /* report of egrynnol_segment: 1 record */
+#define EGRYNNOL_REPORT_SWEEP 848   /* report of egrynnol_clock and egrynnol_release: 16 records */
 
 /* egrynnol_decision.place of a loss where no sequence was open. */
 #define EGRYNNOL_NO_PLACE 16
@@ -129,12 +129,12 @@ extern "C" {
 #define EGRYNNOL_KIND_2000 2        /* a context of 2000: originating and destination address */
 #define EGRYNNOL_REGISTRY_RECORD 3  /* octets of a registry record */
 
-/* ---- The report: records of 32 octets, from the front of the area ----
+/* ---- The report: records of 53 octets, from the front of the area ----
  * Numbers are most significant octet first. */
 
-#define EGRYNNOL_RECORD 32          /* octets of a record, with its kind octet */
-#define EGRYNNOL_KIND_DELIVERED 16
-#define EGRYNNOL_KIND_LOST 17
+#define EGRYNNOL_RECORD 53          /* octets of a record, with its kind octet */
+#define EGRYNNOL_KIND_DELIVERED 18
+#define EGRYNNOL_KIND_LOST 19
 #define EGRYNNOL_NO_REFERENCE 255   /* reference of an unsegmented parameter */
 
 /* Where the fields of a record start. */
@@ -148,6 +148,8 @@ extern "C" {
 #define EGRYNNOL_AT_OCTETS 9          /* 2 octets: octets of information covered */
 #define EGRYNNOL_AT_ORIGIN_LENGTH 11  /* 0 to 20 */
 #define EGRYNNOL_AT_ORIGIN 12         /* 20 octets, zero filled */
+#define EGRYNNOL_AT_DESTINATION_LENGTH 32 /* 0 to 20 */
+#define EGRYNNOL_AT_DESTINATION 33    /* 20 octets, zero filled */
 
 /* Causes of a loss. */
 enum egrynnol_cause {
@@ -172,7 +174,7 @@ enum egrynnol_refusal {
     EGRYNNOL_GOOD = 0,                      /* not refused */
     EGRYNNOL_REFUSAL_TABLE = 1,             /* table not sound, or summary not sound beside it */
     EGRYNNOL_REFUSAL_STORE = 2,             /* store under 32,768 */
-    EGRYNNOL_REFUSAL_REPORT = 3,            /* report area under 32 (segment) or 512 (clock, release) */
+    EGRYNNOL_REFUSAL_REPORT = 3,            /* report area under 53 (segment) or 848 (clock, release) */
     EGRYNNOL_REFUSAL_PARAMETER = 4,         /* parameter over 255 */
     EGRYNNOL_REFUSAL_CUT = 5,               /* parameter ends inside its fields */
     EGRYNNOL_REFUSAL_EXTENSION = 6,         /* octet 1a, 2 or 3a has extension 0 */
@@ -208,6 +210,7 @@ typedef struct egrynnol_key {
     uint16_t association;
     uint16_t context;
     egrynnol_address origin;
+    egrynnol_address destination;
     uint8_t reference;
 } egrynnol_key;
 
@@ -358,8 +361,9 @@ egrynnol_opened egrynnol_opening(egrynnol_summary *summary,
  * taken, and what a record covers as delivered or as lost. A total to which the
  * segment adds nothing is not looked at.
  *
- * The destination address is read and passed over. What the information means
- * is not looked at.
+ * A sequence is told apart from others by association, context, originating
+ * address, destination address and reference; an address is its octets and its
+ * length. What the information means is not looked at.
  *
  * A context below 128 is in one octet: in two, its upper part zero, it is refused
  * with 23, registered or not. So equal contexts have equal octets in all that is
@@ -461,19 +465,20 @@ EGRYNNOL_CHECK(lp64_target_needed, sizeof(size_t) == 8 && sizeof(long) == 8 && s
 
 EGRYNNOL_CHECK(address, sizeof(egrynnol_address) == 21
                && offsetof(egrynnol_address, octets) == 0 && offsetof(egrynnol_address, length) == 20);
-EGRYNNOL_CHECK(key, sizeof(egrynnol_key) == 26
+EGRYNNOL_CHECK(key, sizeof(egrynnol_key) == 48
                && offsetof(egrynnol_key, association) == 0 && offsetof(egrynnol_key, context) == 2
-               && offsetof(egrynnol_key, origin) == 4 && offsetof(egrynnol_key, reference) == 25);
-EGRYNNOL_CHECK(place, sizeof(egrynnol_place) == 36
-               && offsetof(egrynnol_place, key) == 0 && offsetof(egrynnol_place, octets) == 26
-               && offsetof(egrynnol_place, start) == 28 && offsetof(egrynnol_place, mark) == 32
-               && offsetof(egrynnol_place, instruction) == 33 && offsetof(egrynnol_place, remaining) == 34
-               && offsetof(egrynnol_place, segments) == 35);
+               && offsetof(egrynnol_key, origin) == 4 && offsetof(egrynnol_key, destination) == 25
+               && offsetof(egrynnol_key, reference) == 46);
+EGRYNNOL_CHECK(place, sizeof(egrynnol_place) == 60
+               && offsetof(egrynnol_place, key) == 0 && offsetof(egrynnol_place, octets) == 48
+               && offsetof(egrynnol_place, start) == 52 && offsetof(egrynnol_place, mark) == 56
+               && offsetof(egrynnol_place, instruction) == 57 && offsetof(egrynnol_place, remaining) == 58
+               && offsetof(egrynnol_place, segments) == 59);
 EGRYNNOL_CHECK(entry, sizeof(egrynnol_entry) == 4
                && offsetof(egrynnol_entry, context) == 0 && offsetof(egrynnol_entry, kind) == 2);
-EGRYNNOL_CHECK(table, sizeof(egrynnol_table) == 616
-               && offsetof(egrynnol_table, places) == 0 && offsetof(egrynnol_table, registry) == 576
-               && offsetof(egrynnol_table, timer) == 608 && offsetof(egrynnol_table, clock) == 612);
+EGRYNNOL_CHECK(table, sizeof(egrynnol_table) == 1000
+               && offsetof(egrynnol_table, places) == 0 && offsetof(egrynnol_table, registry) == 960
+               && offsetof(egrynnol_table, timer) == 992 && offsetof(egrynnol_table, clock) == 996);
 EGRYNNOL_CHECK(summary, sizeof(egrynnol_summary) == 4096
                && offsetof(egrynnol_summary, mark) == 0 && offsetof(egrynnol_summary, association) == 512
                && offsetof(egrynnol_summary, taken_segments) == 1024 && offsetof(egrynnol_summary, taken_octets) == 1536
@@ -483,14 +488,14 @@ EGRYNNOL_CHECK(decision, sizeof(egrynnol_decision) == 32
                && offsetof(egrynnol_decision, place) == 0 && offsetof(egrynnol_decision, start) == 8
                && offsetof(egrynnol_decision, length) == 16 && offsetof(egrynnol_decision, kind) == 24
                && offsetof(egrynnol_decision, cause) == 25);
-EGRYNNOL_CHECK(received, sizeof(egrynnol_received) == 656
-               && offsetof(egrynnol_received, table) == 0 && offsetof(egrynnol_received, decision) == 616
-               && offsetof(egrynnol_received, refusal) == 648 && offsetof(egrynnol_received, records) == 649);
-EGRYNNOL_CHECK(swept, sizeof(egrynnol_swept) == 620
-               && offsetof(egrynnol_swept, table) == 0 && offsetof(egrynnol_swept, refusal) == 616
-               && offsetof(egrynnol_swept, records) == 617);
-EGRYNNOL_CHECK(opened, sizeof(egrynnol_opened) == 620
-               && offsetof(egrynnol_opened, table) == 0 && offsetof(egrynnol_opened, refusal) == 616);
+EGRYNNOL_CHECK(received, sizeof(egrynnol_received) == 1040
+               && offsetof(egrynnol_received, table) == 0 && offsetof(egrynnol_received, decision) == 1000
+               && offsetof(egrynnol_received, refusal) == 1032 && offsetof(egrynnol_received, records) == 1033);
+EGRYNNOL_CHECK(swept, sizeof(egrynnol_swept) == 1004
+               && offsetof(egrynnol_swept, table) == 0 && offsetof(egrynnol_swept, refusal) == 1000
+               && offsetof(egrynnol_swept, records) == 1001);
+EGRYNNOL_CHECK(opened, sizeof(egrynnol_opened) == 1004
+               && offsetof(egrynnol_opened, table) == 0 && offsetof(egrynnol_opened, refusal) == 1000);
 EGRYNNOL_CHECK(request, sizeof(egrynnol_request) == 32
                && offsetof(egrynnol_request, context) == 0 && offsetof(egrynnol_request, instruction) == 2
                && offsetof(egrynnol_request, reference) == 3 && offsetof(egrynnol_request, room1) == 8
@@ -518,14 +523,16 @@ typedef struct egrynnol_record {
     unsigned octets;            /* of information, covered */
     unsigned origin_length;     /* 0 to 20 */
     uint8_t origin[EGRYNNOL_ADDRESS]; /* zero filled */
+    unsigned destination_length; /* 0 to 20 */
+    uint8_t destination[EGRYNNOL_ADDRESS]; /* zero filled */
 } egrynnol_record;
 
 /*
  * egrynnol_record_at - record n of a report, from 0 on.
  *
- * n is less than the records of the call's answer. It reads 32 octets, from
- * report + 32 x n on, and asks nothing of them: of octets that are no record of
- * the library's, kind and origin_length can be anything up to 255.
+ * n is less than the records of the call's answer. It reads 53 octets, from
+ * report + 53 x n on, and asks nothing of them: of octets that are no record of
+ * the library's, kind and both lengths can be anything up to 255.
  */
 EGRYNNOL_INLINE EGRYNNOL_USE_ANSWER egrynnol_record egrynnol_record_at(const uint8_t *report, size_t n)
 {
@@ -542,8 +549,11 @@ EGRYNNOL_INLINE EGRYNNOL_USE_ANSWER egrynnol_record egrynnol_record_at(const uin
     record.segments = from[EGRYNNOL_AT_SEGMENTS];
     record.octets = from[EGRYNNOL_AT_OCTETS] * 256u + from[EGRYNNOL_AT_OCTETS + 1];
     record.origin_length = from[EGRYNNOL_AT_ORIGIN_LENGTH];
-    for (k = 0; k < EGRYNNOL_ADDRESS; k++)
+    record.destination_length = from[EGRYNNOL_AT_DESTINATION_LENGTH];
+    for (k = 0; k < EGRYNNOL_ADDRESS; k++) {
         record.origin[k] = from[EGRYNNOL_AT_ORIGIN + k];
+        record.destination[k] = from[EGRYNNOL_AT_DESTINATION + k];
+    }
     return record;
 }
 

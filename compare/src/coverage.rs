@@ -3,6 +3,7 @@
 use std::fmt;
 
 use crate::cases::Case;
+use crate::destinations::{self, WAYS};
 use crate::input::{Answer, Input, CALLS};
 use crate::summaries::{self, RULES as SUMMARY_RULES};
 use crate::traces;
@@ -48,6 +49,22 @@ const FORMS: [&str; 6] = [
     "6 at octet 1a with a zero upper part",
 ];
 
+/// What becomes of a segment while a sequence is open that differs in the destination alone.
+const BESIDE: [&str; 4] =
+    ["begun", "lost, cause 1", "lost, cause 4, not open", "of one that is open"];
+
+/// The addresses of records.
+const RECORDED: [&str; 5] =
+    ["none", "origin alone", "destination alone", "both the same", "both, different"];
+
+/// Reports that are refused by 3.
+const SHORT: [&str; 4] = [
+    "segment's, one octet short",
+    "segment's, as before A3",
+    "clock's or release's, one octet short",
+    "clock's or release's, as before A3",
+];
+
 /// The refusals that the headers from end to end lead to.
 const OF_HEADERS: [u8; 7] = [0, 5, 6, 7, 8, 9, 23];
 
@@ -70,8 +87,20 @@ const IN_TRACES: [u8; 13] = [0, 1, 5, 6, 7, 8, 9, 10, 11, 12, 13, 21, 23];
 /// What the records program tells under the lines of the events, and after them.
 const UNDER: [&str; 4] = ["delivered", "lost", "dropped", "held"];
 
-/// By who cuts; and the segments on the way that were first tried with their contexts padded.
-const TRIPS: [&str; 3] = ["cut by the model", "cut by the library", "segments turned away padded"];
+/// What the same lines say of a destination.
+const TOLD: [&str; 3] = ["none", "that of the origin", "another"];
+
+/// Records in a trace at which it stops.
+const STOPS: [u8; 4] = [16, 17, 18, 19];
+
+/// By who cuts; and the segments on the way that were first tried with their contexts padded, or
+/// that came beside a sequence that differs in the destination alone.
+const TRIPS: [&str; 4] = [
+    "cut by the model",
+    "cut by the library",
+    "segments turned away padded",
+    "segments beside another destination's",
+];
 
 /// The used rows that an opening comes to.
 const OPENINGS: [&str; 4] = ["refused", "none", "1 to 63", "64"];
@@ -136,6 +165,9 @@ pub struct Coverage {
     rules: Tally,
     rows: Tally,
     forms: Tally,
+    beside: Tally,
+    recorded: Tally,
+    short: Tally,
     parts: Tally,
     counts: Tally,
     lengths: Tally,
@@ -143,6 +175,8 @@ pub struct Coverage {
     trace_ends: Tally,
     trace_records: Tally,
     trace_openings: Tally,
+    trace_destinations: Tally,
+    trace_stops: Tally,
     trips: Tally,
     trip_counts: Tally,
     headers: Tally,
@@ -170,6 +204,10 @@ fn pairs(call: usize) -> Tally {
     Tally::seldom(&format!("pairs of refusals of {}", CALLS[call]), pairs)
 }
 
+fn besides() -> impl Iterator<Item = String> {
+    BESIDE.iter().flat_map(|what| WAYS.iter().map(move |way| format!("{what}, {way}")))
+}
+
 impl Coverage {
     pub fn new() -> Coverage {
         Coverage {
@@ -181,6 +219,9 @@ impl Coverage {
             rules: Tally::new("unsound tables and summaries", RULES.iter().chain(&SUMMARY_RULES)),
             rows: Tally::new("rows of summaries", ROWS_MET),
             forms: Tally::new("contexts by their octets", FORMS),
+            beside: Tally::new("segments beside another destination's sequence", besides()),
+            recorded: Tally::new("addresses in records", RECORDED),
+            short: Tally::new("reports refused", SHORT),
             parts: Tally::new("deliveries", ["empty", "of the parameter", "of the store"]),
             counts: Tally::new("sent, by count of segments", 1..=SEGMENTS),
             lengths: Tally::seldom("lengths of parameters", (0..=256).chain([257, 300])),
@@ -188,6 +229,8 @@ impl Coverage {
             trace_ends: Tally::seldom("traces", ["to the end", "stopped"]),
             trace_records: Tally::seldom("lines under events, by name", UNDER),
             trace_openings: Tally::seldom("openings, by their used rows", OPENINGS),
+            trace_destinations: Tally::seldom("destinations in lines under events", TOLD),
+            trace_stops: Tally::seldom("stops at records, by kind", STOPS),
             trips: Tally::new("round trips", TRIPS),
             trip_counts: Tally::new("round trips, by count of segments", 1..=SEGMENTS),
             headers: Tally::new("headers from end to end, by refusal", OF_HEADERS),
@@ -203,6 +246,9 @@ impl Coverage {
             &self.rules,
             &self.rows,
             &self.forms,
+            &self.beside,
+            &self.recorded,
+            &self.short,
             &self.counts,
             &self.lengths,
         ];
@@ -212,8 +258,8 @@ impl Coverage {
     }
 
     fn of_traces(&self) -> impl Iterator<Item = &Tally> {
-        let records = [&self.trace_records, &self.trace_openings];
-        [&self.trace_lines, &self.trace_ends].into_iter().chain(records)
+        let records = [&self.trace_records, &self.trace_destinations, &self.trace_openings];
+        [&self.trace_lines, &self.trace_ends, &self.trace_stops].into_iter().chain(records)
     }
 
     pub fn calls(&self) -> u64 {
@@ -249,8 +295,8 @@ impl fmt::Display for Coverage {
 }
 
 impl Coverage {
-    /// The summary is the one that the call left.
-    pub fn count(&mut self, case: &Case, answer: &Answer, summary: &Summary) {
+    /// The summary and the report are as the call left them.
+    pub fn count(&mut self, case: &Case, answer: &Answer, summary: &Summary, report: &[u8]) {
         let call = case.input.call();
         let number = ORDERS[call].iter().position(|number| *number == answer.refusal());
         self.calls.add(call, 1);
@@ -270,14 +316,25 @@ impl Coverage {
             self.lengths.add(parameter.len().min(258), 1);
             self.form(table, parameter, answer.refusal());
         }
+        if answer.refusal() == 3 {
+            self.short(&case.input);
+        }
+        self.answered(&case.input, answer, report);
+    }
+
+    /// What came of a call.
+    fn answered(&mut self, input: &Input, answer: &Answer, report: &[u8]) {
         match answer {
             Answer::Received(received, part) if received.refusal == 0 => {
-                self.received(&case.input, received);
+                self.received(input, received);
+                self.beside(input, received);
+                self.recorded(report, received.records);
                 self.part(*part);
             }
             Answer::Swept(swept) => {
-                let cause = if call == 2 { 6 } else { 7 };
+                let cause = if input.call() == 2 { 6 } else { 7 };
                 self.causes.add(cause - 1, swept.records.into());
+                self.recorded(report, swept.records);
             }
             Answer::Part(part) => self.part(*part),
             Answer::Sent(sent) if sent.refusal == 0 => {
@@ -325,6 +382,49 @@ impl Coverage {
         self.forms.add(index, 1);
     }
 
+    /// Which other destinations were open beside the segment's, and what became of it.
+    fn beside(&mut self, input: &Input, received: &Received) {
+        let Input::Segment { table, association, parameter, .. } = input else { return };
+        let Some(key) = destinations::key(table, *association, parameter) else { return };
+        let Decision { kind, cause, place, .. } = received.decision;
+        let what = match (kind, cause) {
+            (1, _) if table.places[place].mark == 0 => 0,
+            (4, 1) => 1,
+            (4, 4) if place == PLACES => 2,
+            _ => 3,
+        };
+        for way in destinations::beside(table, &key) {
+            self.beside.add(what * WAYS.len() + way, 1);
+        }
+    }
+
+    fn recorded(&mut self, report: &[u8], records: u8) {
+        for record in report.chunks(RECORD).take(records.into()) {
+            let (origin, destination) = record[ORIGIN_AT..].split_at(DESTINATION_AT - ORIGIN_AT);
+            let index = match (origin[0], destination[0]) {
+                (0, 0) => 0,
+                (_, 0) => 1,
+                (0, _) => 2,
+                _ if origin == destination => 3,
+                _ => 4,
+            };
+            self.recorded.add(index, 1);
+        }
+    }
+
+    /// A report that was refused, at the limits.
+    fn short(&mut self, input: &Input) {
+        let (first, report, least, old) = match input {
+            Input::Segment { report, .. } => (0, *report, RECORD, OLD_RECORD),
+            Input::Clock { report, .. } | Input::Release { report, .. } => {
+                (2, *report, SWEEP, OLD_SWEEP)
+            }
+            _ => return,
+        };
+        self.short.add(first, (report + 1 == least).into());
+        self.short.add(first + 1, (report == old).into());
+    }
+
     fn part(&mut self, part: Part) {
         let index = match part {
             Part { length: 0, .. } => 0,
@@ -356,8 +456,12 @@ impl Coverage {
         }
     }
 
-    /// The texts of the replay program, of the records program and of the totals program.
-    pub fn count_trace(&mut self, [text, records, totals]: &[String; 3]) {
+    /// The texts of the replay program, of the records program and of the totals program, and the
+    /// kind of a record that the trace stopped at.
+    pub fn count_trace(&mut self, [text, records, totals]: &[String; 3], unknown: Option<u8>) {
+        if let Some(kind) = unknown {
+            self.trace_stops.add_named(&kind.to_string());
+        }
         for (heading, rows) in traces::openings(totals) {
             let index = match rows.len() {
                 _ if !heading.ends_with(" 0") => 0,
@@ -367,17 +471,27 @@ impl Coverage {
             };
             self.trace_openings.add(index, 1);
         }
-        let names = records.lines().filter_map(|line| line.split(' ').next());
-        let under = names.filter(|name| UNDER.contains(name));
-        under.for_each(|name| self.trace_records.add_named(name));
+        records.lines().for_each(|line| self.under(line));
         let refusals = text.lines().filter_map(|line| line.split(' ').nth(1));
         refusals.for_each(|refusal| self.trace_lines.add_named(refusal));
         self.trace_ends.add(usize::from(text.ends_with("stop\n")), 1);
     }
 
+    /// A line of the records program, if it is one under an event.
+    fn under(&mut self, line: &str) {
+        let words: Vec<&str> = line.split(' ').collect();
+        let [name, .., origin, destination] = words[..] else { return };
+        if UNDER.contains(&name) {
+            self.trace_records.add_named(name);
+            let told = if destination == "-" { 0 } else { 1 + usize::from(origin != destination) };
+            self.trace_destinations.add(told, 1);
+        }
+    }
+
     pub fn count_trip(&mut self, direction: usize, made: &Made) {
         self.trips.add(direction, 1);
         self.trips.add(2, made.turned_away);
+        self.trips.add(3, made.beside);
         made.counts.iter().for_each(|count| self.trip_counts.add(count - 1, 1));
     }
 

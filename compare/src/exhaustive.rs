@@ -1,13 +1,14 @@
 //! Short ranges gone through from end to end, where chance might miss one value.
 
-use crate::billed;
-use crate::contexts;
 use crate::input::Input;
 use crate::pair::Pair;
 use crate::random::Random;
 use model::*;
 
-/// Contexts 3 of 1998, 4 of 2000 and 128 of 1998, and one open sequence of each.
+/// The destinations of the sequences of context 4: nothing else tells these apart.
+const DESTINATIONS: [(usize, &[u8]); 3] = [(7, &[7]), (12, &[7, 0]), (14, &[0, 7])];
+
+/// Contexts 3 of 1998, 4 of 2000 and 128 of 1998, and open sequences of each.
 fn table() -> Table {
     let mut table = Table { timer: 100, clock: 5, ..Table::default() };
     table.registry[0] = Entry { context: 3, kind: 1 };
@@ -23,11 +24,13 @@ fn table() -> Table {
         segments: 3,
     };
     table.places[2] = place;
-    table.places[7] = place;
     table.places[11] = place;
     table.places[11].key.context = 128;
-    let key = &mut table.places[7].key;
-    (key.context, key.length, key.address[1]) = (4, 2, 7);
+    for (index, destination) in DESTINATIONS {
+        let (origin, destination) = (Address::of(&[0, 7]), Address::of(destination));
+        let key = Key { context: 4, origin, destination, ..place.key };
+        table.places[index] = Place { key, ..place };
+    }
     table
 }
 
@@ -68,9 +71,15 @@ impl<'p, 'a> Exhaustive<'p, 'a> {
         self.headers(&[0x83, 0x80, 0x03, 0x85, 0xAA, 0xBB])?;
         self.headers(&[0x84, 0x80, 0x03, 0x85, 0x02, 0x00, 0x07, 0x01, 0x07, 0xAA])?;
         self.headers(&[0x00, 0x81, 0x80, 0x03, 0x85, 0xAA, 0xBB])?;
+        // A destination's length and first octet, which decides what the next ones are; and two
+        // octets of a destination.
+        self.neighbours(&[0x84, 0x80, 0x03, 0x85, 2, 0, 7, 1, 7, 0, 7, 0xAA], 7)?;
+        self.neighbours(&[0x84, 0x80, 0x03, 0x85, 2, 0, 7, 2, 0, 7, 0xAA], 7)?;
+        self.neighbours(&[0x84, 0x80, 0x03, 0x85, 2, 0, 7, 2, 0, 7, 0xAA], 8)?;
         self.contexts()?;
         self.counts()?;
         self.fields()?;
+        self.destinations()?;
         self.rooms()?;
         self.bits()?;
         self.rows()
@@ -80,12 +89,8 @@ impl<'p, 'a> Exhaustive<'p, 'a> {
     fn run(&mut self, input: Input) -> Result<u8, String> {
         self.calls += 1;
         let answer = self.pair.run(&input, self.random)?;
-        let wrong = billed::wrong(&input, &answer, self.pair.summary(), self.pair.report())
-            .or_else(|| contexts::wrong(&input, &answer, self.pair.report()));
-        match wrong {
-            None => Ok(answer.refusal()),
-            Some(wrong) => Err(format!("{input}{wrong}")),
-        }
+        self.pair.judge(&input, &answer)?;
+        Ok(answer.refusal())
     }
 
     fn segment(
@@ -158,7 +163,7 @@ impl<'p, 'a> Exhaustive<'p, 'a> {
                     3 => table.registry[6].context = value,
                     _ if value >= 512 => continue,
                     4 => place.key.reference = octet,
-                    5 => place.key.length = octet,
+                    5 => place.key.origin.length = octet,
                     6 => place.mark = octet,
                     7 => place.instruction = octet,
                     8 => table.registry[5].kind = octet,
@@ -169,6 +174,31 @@ impl<'p, 'a> Exhaustive<'p, 'a> {
             }
         }
         Ok(())
+    }
+
+    /// Every value of each octet of a destination, as the last one that counts, the first one that
+    /// does not, and among others; every length, with each octet alone not zero. In an open place
+    /// of 1998, in one of 2000 and in a free one.
+    fn destinations(&mut self) -> Result<(), String> {
+        for (index, at) in [2, 7, 0].into_iter().flat_map(|i| (0..ADDRESS).map(move |at| (i, at))) {
+            for value in 0..=255 {
+                let mut octets = [0; ADDRESS];
+                octets[at] = value;
+                for length in [at as u8 + 1, at as u8, ADDRESS as u8] {
+                    self.destination(index, Address { octets, length })?;
+                }
+                octets[at] = 7;
+                self.destination(index, Address { octets, length: value })?;
+            }
+        }
+        Ok(())
+    }
+
+    /// All the open sequences end, so that a destination that is good is also recorded.
+    fn destination(&mut self, index: usize, destination: Address) -> Result<u8, String> {
+        let mut table = table();
+        table.places[index].key.destination = destination;
+        self.release(table, summary())
     }
 
     /// Every two rooms, for data of some lengths.

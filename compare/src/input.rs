@@ -1,6 +1,7 @@
 //! The inputs of one call, its answers, and both as text.
 
 use std::fmt;
+use std::mem::size_of;
 
 use crate::summaries;
 use model::*;
@@ -121,13 +122,17 @@ pub fn hex(octets: &[u8]) -> String {
 
 /// A table's octets in memory, with the padding written as 0.
 pub fn table_octets(table: &Table) -> Vec<u8> {
-    let mut octets = Vec::with_capacity(616);
+    let mut octets = Vec::with_capacity(size_of::<Table>());
     for place in &table.places {
-        octets.extend(place.key.address);
         octets.extend(place.key.association.to_le_bytes());
         octets.extend(place.key.context.to_le_bytes());
-        octets.extend([place.key.reference, place.key.length]);
+        for address in [&place.key.origin, &place.key.destination] {
+            octets.extend(address.octets);
+            octets.push(address.length);
+        }
+        octets.extend([place.key.reference, 0]);
         octets.extend(place.octets.to_le_bytes());
+        octets.extend([0, 0]);
         octets.extend(place.start.to_le_bytes());
         octets.extend([place.mark, place.instruction, place.remaining, place.segments]);
     }

@@ -7,7 +7,7 @@ use model::*;
 
 #[link(name = "egrynnol", kind = "static")]
 extern "C" {
-    #[link_name = "egrynnol_2_opening"]
+    #[link_name = "egrynnol_3_opening"]
     pub fn egrynnol_opening(
         summary: *mut Summary,
         registry: *const u8,
@@ -15,7 +15,7 @@ extern "C" {
         timer: u32,
         clock: u32,
     ) -> Opened;
-    #[link_name = "egrynnol_2_segment"]
+    #[link_name = "egrynnol_3_segment"]
     pub fn egrynnol_segment(
         table: Table,
         summary: *mut Summary,
@@ -27,7 +27,7 @@ extern "C" {
         parameter: *const u8,
         parameter_length: usize,
     ) -> Received;
-    #[link_name = "egrynnol_2_clock"]
+    #[link_name = "egrynnol_3_clock"]
     pub fn egrynnol_clock(
         table: Table,
         summary: *mut Summary,
@@ -35,7 +35,7 @@ extern "C" {
         length: usize,
         time: u32,
     ) -> Swept;
-    #[link_name = "egrynnol_2_release"]
+    #[link_name = "egrynnol_3_release"]
     pub fn egrynnol_release(
         table: Table,
         summary: *mut Summary,
@@ -43,7 +43,7 @@ extern "C" {
         length: usize,
         association: u16,
     ) -> Swept;
-    #[link_name = "egrynnol_2_delivery"]
+    #[link_name = "egrynnol_3_delivery"]
     pub fn egrynnol_delivery(
         decision: Decision,
         parameter: *const u8,
@@ -51,7 +51,7 @@ extern "C" {
         store: *const u8,
         store_length: usize,
     ) -> Part;
-    #[link_name = "egrynnol_2_sending"]
+    #[link_name = "egrynnol_3_sending"]
     pub fn egrynnol_sending(
         table: Table,
         request: Request,

@@ -5,6 +5,7 @@ mod billed;
 mod cases;
 mod contexts;
 mod coverage;
+mod destinations;
 mod exhaustive;
 mod input;
 #[cfg(feature = "library")]

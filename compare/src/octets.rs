@@ -43,23 +43,33 @@ pub trait Shape {
     fn read(fields: &mut Fields) -> Self;
 }
 
+impl Shape for Address {
+    fn read(fields: &mut Fields) -> Self {
+        Address { octets: fields.take(), length: fields.octet() }
+    }
+}
+
 impl Shape for Key {
     fn read(fields: &mut Fields) -> Self {
-        Key {
+        let key = Key {
             association: fields.short(),
             context: fields.short(),
-            address: fields.take(),
-            length: fields.octet(),
+            origin: Address::read(fields),
+            destination: Address::read(fields),
             reference: fields.octet(),
-        }
+        };
+        fields.pass::<1>();
+        key
     }
 }
 
 impl Shape for Place {
     fn read(fields: &mut Fields) -> Self {
+        let (key, octets) = (Key::read(fields), fields.short());
+        fields.pass::<2>();
         Place {
-            key: Key::read(fields),
-            octets: fields.short(),
+            key,
+            octets,
             start: fields.number(),
             mark: fields.octet(),
             instruction: fields.octet(),
@@ -181,7 +191,7 @@ mod tests {
     use crate::input::table_octets;
     use crate::random::Random;
     use crate::{summaries, tables};
-    use std::mem::size_of;
+    use std::mem::{offset_of, size_of};
 
     /// Reads a struct of octets 0, 1, 2.. and says how many were read.
     fn counted<T: Shape>() -> (T, usize) {
@@ -199,8 +209,23 @@ mod tests {
         assert_eq!(counted::<Part>().1, size_of::<Part>());
         assert_eq!(counted::<Sent>().1, size_of::<Sent>());
         assert_eq!(counted::<Summary>().1, size_of::<Summary>());
-        assert_eq!(counted::<Swept>().0.records, (617 % 256) as u8);
-        assert_eq!(counted::<Received>().0.decision.place.to_le_bytes()[0], (616 % 256) as u8);
+        assert_eq!(counted::<Swept>().0.records, offset_of!(Swept, records) as u8);
+        let place = counted::<Received>().0.decision.place.to_le_bytes()[0];
+        assert_eq!(place, offset_of!(Received, decision) as u8);
+    }
+
+    /// Each field is read where it lies.
+    #[test]
+    fn fields_of_a_place() {
+        let (place, _) = counted::<Place>();
+        assert_eq!(place.key.origin.octets[0], offset_of!(Key, origin) as u8);
+        assert_eq!(place.key.destination.octets[0], offset_of!(Key, destination) as u8);
+        let length = offset_of!(Key, destination) + offset_of!(Address, length);
+        assert_eq!(place.key.destination.length, length as u8);
+        assert_eq!(place.key.reference, offset_of!(Key, reference) as u8);
+        assert_eq!(place.octets.to_le_bytes()[0], offset_of!(Place, octets) as u8);
+        assert_eq!(place.start.to_le_bytes()[0], offset_of!(Place, start) as u8);
+        assert_eq!(place.segments, offset_of!(Place, segments) as u8);
     }
 
     #[test]

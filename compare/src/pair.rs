@@ -3,13 +3,13 @@
 use crate::input::{hex, Answer, Input};
 use crate::random::Random;
 use crate::side::Side;
-use crate::summaries;
-use model::{Summary, ROWS};
+use crate::{billed, contexts, destinations, summaries};
+use model::{Summary, ROWS, SWEEP};
 
 /// Octets before and after each lent area, which no call may write.
 const GUARD: usize = 64;
 const LONGEST_STORE: usize = 36_864;
-const LONGEST_REPORT: usize = 576;
+pub const LONGEST_REPORT: usize = SWEEP + GUARD;
 const LONGEST_AREA: usize = 384;
 
 /// A summary between guards of its own.
@@ -87,6 +87,18 @@ impl<'a> Pair<'a> {
             if let Some(summary) = summary {
                 guarded.summary = *summary;
             }
+        }
+    }
+
+    /// The answer that both sides gave to the last call, by the rules of the requests.
+    pub fn judge(&self, input: &Input, answer: &Answer) -> Result<(), String> {
+        let report = self.report();
+        let wrong = billed::wrong(input, answer, self.summary(), report)
+            .or_else(|| contexts::wrong(input, answer, report))
+            .or_else(|| destinations::wrong(input, answer, report));
+        match wrong {
+            None => Ok(()),
+            Some(wrong) => Err(format!("{input}{wrong}")),
         }
     }
 

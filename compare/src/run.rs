@@ -1,9 +1,7 @@
 //! A run: calls, traces and round trips in turn, up to the first difference.
 
 use crate::arguments::Arguments;
-use crate::billed;
 use crate::cases::World;
-use crate::contexts;
 use crate::coverage::Coverage;
 use crate::exhaustive::Exhaustive;
 #[cfg(feature = "library")]
@@ -114,12 +112,8 @@ impl<'a> Run<'a> {
             let (held, number) = (&case.held, answer.refusal());
             return Err(format!("{}made for {held:?}, but both answer {number}\n", case.input));
         }
-        let wrong = billed::wrong(&case.input, &answer, pair.summary(), pair.report())
-            .or_else(|| contexts::wrong(&case.input, &answer, pair.report()));
-        if let Some(wrong) = wrong {
-            return Err(format!("{}{wrong}", case.input));
-        }
-        self.coverage.count(&case, &answer, pair.summary());
+        pair.judge(&case.input, &answer)?;
+        self.coverage.count(&case, &answer, pair.summary(), pair.report());
         world.absorb(&case, &answer, pair.summary());
         Ok(())
     }
@@ -137,8 +131,8 @@ impl<'a> Run<'a> {
 
     fn trace(&mut self, random: &mut Random) -> Result<(), String> {
         let trace = traces::trace(random);
-        let texts = traces::compare(&self.model, &self.replayer, &trace)?;
-        self.coverage.count_trace(&texts);
+        let texts = traces::compare(&self.model, &self.replayer, &trace.octets)?;
+        self.coverage.count_trace(&texts, trace.unknown);
         Ok(())
     }
 }
@@ -163,14 +157,14 @@ mod tests {
         }
     }
 
-    /// What A1 asks of the rows and A2 of the contexts is asked of both sides, so that a break they
-    /// share is found too.
+    /// What A1 asks of the rows, A2 of the contexts and A3 of the destinations is asked of both
+    /// sides, so that a break they share is found too.
     #[test]
     fn shared_breaks_of_the_requests_are_found() {
         let mut arguments = arguments();
         arguments.only_calls = true;
         let first = Fault::ALL.iter().position(|fault| *fault == Fault::RefusedCounted);
-        let last = Fault::ALL.iter().position(|fault| *fault == Fault::PaddedLater);
+        let last = Fault::ALL.iter().position(|fault| *fault == Fault::OldKinds);
         for fault in &Fault::ALL[first.unwrap_or(0)..=last.unwrap_or(0)] {
             let other: &'static Model = Box::leak(Box::new(Model::with(*fault)));
             let mut run = Run { other, ..Run::new(&arguments, *other) };

@@ -10,21 +10,16 @@ pub struct Scene {
     pub wire: Wire,
 }
 
-fn kind(table: &Table, context: u16) -> u8 {
-    table.registry.iter().find(|entry| entry.context == context).map_or(0, |entry| entry.kind)
-}
-
-/// A wire with the fields of a key; the destination and what is ignored are any. It is good, so
-/// that its context is not padded.
+/// A wire with the fields of a key; what is ignored is any. It is good, so that its context is not
+/// padded.
 fn wire(random: &mut Random, table: &Table, key: &Key) -> Wire {
-    let origin = key.address[..usize::from(key.length).min(ADDRESS)].to_vec();
-    let addresses = (kind(table, key.context) == 2).then(|| [origin, tables::address(random)]);
+    let addresses = [&key.origin, &key.destination].map(|address| address.counting().to_vec());
     Wire {
         context: key.context,
         spare: if random.one_in(4) { random.below(32) as u8 } else { 0 },
         instruction: random.below(4) as u8,
         reference: Some(key.reference),
-        addresses,
+        addresses: Some(addresses).filter(|_| tables::kind(table, key.context) == 2),
         ..Wire::default()
     }
 }
@@ -89,15 +84,12 @@ fn follow(random: &mut Random, table: &Table, plan: usize) -> Option<Scene> {
 
 /// A segment of a key that is likely not open: nearly the key of an open one, if there is one.
 fn stray(random: &mut Random, table: &Table, plan: usize) -> Option<Scene> {
-    let Scene { mut association, mut wire } = begin(random, table)?;
-    if let Some(place) = open_place(random, table).filter(|_| random.one_in(2)) {
-        wire.context = place.key.context;
-        wire.addresses = (kind(table, place.key.context) == 2)
-            .then(|| [tables::address(random), tables::address(random)]);
-        wire.reference = Some(place.key.reference);
-        association = place.key.association;
-        inform(random, &mut wire, 200);
+    let mut scene = begin(random, table)?;
+    if let Some(key) = tables::near_key(random, table).filter(|_| random.one_in(2)) {
+        scene = Scene { association: key.association, wire: wire(random, table, &key) };
+        inform(random, &mut scene.wire, 200);
     }
+    let wire = &mut scene.wire;
     (wire.new, wire.remaining) = match plan {
         0 => (false, random.within(0..=9) as u8),
         1 => (random.one_in(2), random.pick(&[10, 11, 63, 32, 16])),
@@ -106,7 +98,7 @@ fn stray(random: &mut Random, table: &Table, plan: usize) -> Option<Scene> {
     if plan > 1 {
         wire.reference = None;
     }
-    Some(Scene { association, wire })
+    Some(scene)
 }
 
 /// Mostly a segment that is good; what it does depends on the table.

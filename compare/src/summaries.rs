@@ -264,7 +264,7 @@ pub fn gains(report: &[u8], records: u8) -> Vec<(u16, Gain)> {
     let two = |record: &[u8], at: usize| u16::from_be_bytes([record[at], record[at + 1]]);
     let gain = |record: &[u8]| {
         let mut gain = Gain::default();
-        let at = if record[0] == 16 { 2 } else { 4 };
+        let at = if record[0] == DELIVERED { 2 } else { 4 };
         (gain[at], gain[at + 1]) = (record[8].into(), two(record, 9).into());
         (two(record, 1), gain)
     };

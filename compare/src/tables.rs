@@ -91,19 +91,68 @@ pub fn any_u32(random: &mut Random) -> u32 {
     random.next() as u32
 }
 
-/// A key of a registered context. The table has at least one.
+/// The kind of a registered context, and 0 of another.
+pub fn kind(table: &Table, context: u16) -> u8 {
+    table.registry.iter().find(|entry| entry.context == context).map_or(0, |entry| entry.kind)
+}
+
+/// A key of a registered context, now and then nearly that of an open place. The table has at
+/// least one context.
 pub fn key(random: &mut Random, table: &Table) -> Key {
+    if let Some(key) = near_key(random, table).filter(|_| random.one_in(4)) {
+        return key;
+    }
     let used: Vec<Entry> = table.registry.iter().filter(|entry| entry.kind != 0).copied().collect();
     let entry = random.pick(&used);
-    let origin = if entry.kind == 2 { address(random) } else { vec![] };
-    let mut address = [0; ADDRESS];
-    address[..origin.len()].copy_from_slice(&origin);
+    let [origin, destination] = [(); 2].map(|()| match entry.kind {
+        2 => Address::of(&address(random)),
+        _ => Address::default(),
+    });
     Key {
-        address,
         association: association(random),
         context: entry.context,
+        origin,
+        destination,
         reference: reference(random),
-        length: origin.len() as u8,
+    }
+}
+
+/// The key of an open place with one thing changed: mostly the destination, where it has one.
+pub fn near_key(random: &mut Random, table: &Table) -> Option<Key> {
+    let open: Vec<Key> =
+        table.places.iter().filter(|place| place.mark == 1).map(|place| place.key).collect();
+    let mut key = (!open.is_empty()).then(|| random.pick(&open))?;
+    let addressed = kind(table, key.context) == 2;
+    match random.below(8) {
+        0..=4 if addressed => key.destination = near(random, &key.destination),
+        5 if addressed => key.origin = near(random, &key.origin),
+        6 if addressed => (key.origin, key.destination) = (key.destination, key.origin),
+        0..=3 => key.association = association(random),
+        _ => key.reference = reference(random),
+    }
+    Some(key)
+}
+
+/// Another address that is easily taken for this one.
+pub fn near(random: &mut Random, of: &Address) -> Address {
+    loop {
+        let mut octets = of.counting().to_vec();
+        match random.below(7) {
+            // The same number.
+            0 => octets.insert(0, 0),
+            1 if octets.first() == Some(&0) => drop(octets.remove(0)),
+            // The same octets, filled up.
+            2 => octets.push(0),
+            3 if octets.last() == Some(&0) => drop(octets.pop()),
+            // The same length.
+            4 | 5 if !octets.is_empty() => {
+                octets[random.below(of.counting().len())] ^= 1 << random.below(8)
+            }
+            _ => octets = address(random),
+        }
+        if octets.len() <= ADDRESS && octets != of.counting() {
+            return Address::of(&octets);
+        }
     }
 }
 

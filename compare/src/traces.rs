@@ -73,6 +73,8 @@ struct Scribe<'a> {
     crowded: bool,
     /// Has more associations than there are rows; counts them.
     many: Option<u16>,
+    /// A kind that the trace stops at.
+    unknown: Option<u8>,
     trace: Vec<u8>,
     registry: Vec<u8>,
     table: Table,
@@ -191,13 +193,28 @@ impl Scribe<'_> {
         }
     }
 
+    /// A whole record of a delivery or a loss, which is none of a trace's, before and since A3.
+    fn record(&mut self) {
+        let (kind, length) = self.random.pick(&[
+            (16, OLD_RECORD),
+            (17, OLD_RECORD),
+            (DELIVERED, RECORD),
+            (LOST, RECORD),
+        ]);
+        self.unknown = Some(kind);
+        self.trace.push(kind);
+        let body = self.random.octets(length - 1);
+        self.trace.extend(body);
+        self.events(3);
+    }
+
     /// Something after which the trace is not replayed to its end, or just garbage.
     fn damage(&mut self) {
-        match self.random.below(6) {
+        match self.random.below(10) {
             0 => self.trace.truncate(self.random.within(0..=self.trace.len())),
             1 => {
                 let any = self.random.octet();
-                let kind = self.random.pick(&[0, 3, 15, 16, 17, 18, 31, 36, 255, any]);
+                let kind = self.random.pick(&[0, 3, 15, 16, 17, 18, 19, 20, 31, 36, 255, any]);
                 self.trace.push(kind);
                 self.events(3);
             }
@@ -216,18 +233,25 @@ impl Scribe<'_> {
                 let garbage = self.random.octets(length);
                 self.trace.extend(garbage);
             }
-            _ => self.trace.extend([33, 0, 9]),
+            5 => self.trace.extend([33, 0, 9]),
+            _ => self.record(),
         }
     }
 }
 
-pub fn trace(random: &mut Random) -> Vec<u8> {
+pub struct Trace {
+    pub octets: Vec<u8>,
+    /// The kind of a whole record at which it stops.
+    pub unknown: Option<u8>,
+}
+
+pub fn trace(random: &mut Random) -> Trace {
     let (table, store, report) = (Table::default(), vec![0; STORE], vec![0; SWEEP]);
     let (trace, registry) = (Vec::new(), Vec::new());
     let crowded = random.one_in(4);
-    let (many, summary) = (random.one_in(4).then_some(0), Summary::EMPTY);
+    let (many, unknown, summary) = (random.one_in(4).then_some(0), None, Summary::EMPTY);
     let mut scribe =
-        Scribe { random, crowded, many, trace, registry, table, summary, store, report };
+        Scribe { random, crowded, many, unknown, trace, registry, table, summary, store, report };
     if scribe.random.one_in(8) {
         // Before the first open: without 32, so that registry records may still follow.
         for _ in 0..3 {
@@ -246,7 +270,7 @@ pub fn trace(random: &mut Random) -> Vec<u8> {
     if scribe.random.one_in(2) {
         scribe.damage();
     }
-    scribe.trace
+    Trace { octets: scribe.trace, unknown: scribe.unknown }
 }
 
 /// The model's texts and the other side's, line by line, in the order of `PROGRAMS`.

@@ -3,16 +3,13 @@
 use crate::input::{hex, table_hex};
 use crate::random::Random;
 use crate::side::Side;
-use crate::{summaries, tables};
+use crate::{destinations, summaries, tables};
 use model::*;
 
 /// One sequence on its way.
 struct Trip {
-    context: u16,
+    key: Key,
     instruction: u8,
-    reference: u8,
-    association: u16,
-    addresses: [Vec<u8>; 2],
     data: Vec<u8>,
     rooms: [usize; 2],
     /// The segments not yet received, the last one first.
@@ -26,6 +23,8 @@ pub struct Made {
     pub counts: Vec<usize>,
     /// Segments that were first tried in the padded form.
     pub turned_away: u64,
+    /// Segments that came while a sequence was open that differs in the destination alone.
+    pub beside: u64,
 }
 
 pub struct Ends<'a> {
@@ -43,17 +42,19 @@ impl Ends<'_> {
         let mut trips = Vec::new();
         for number in 0..random.within(1..=3) {
             let n = if number == 0 { n } else { other_length(random) };
-            let trip = self.cut(random, &table, n, number as u8)?;
+            let key = key(random, &table, &trips, number as u8);
+            let trip = self.cut(random, &table, n, &key)?;
             trip.bill(&mut expected);
             trips.push(trip);
         }
-        let mut made = Made { counts: Vec::new(), turned_away: 0 };
+        let mut made = Made { counts: Vec::new(), turned_away: 0, beside: 0 };
         let mut store = random.octets(STORE);
         while !trips.is_empty() {
             let at = random.below(trips.len());
             if random.one_in(4) {
                 made.turned_away += self.turn_away(table, summary, &store, &trips[at])?;
             }
+            made.beside += u64::from(destinations::beside(&table, &trips[at].key).next().is_some());
             if let Some(data) = self.join(&mut table, &mut summary, &mut store, &mut trips[at])? {
                 let trip = trips.swap_remove(at);
                 if data != trip.data {
@@ -72,28 +73,13 @@ impl Ends<'_> {
         }
     }
 
-    /// All the segments of new data. The references keep the sequences apart.
-    fn cut(
-        &self,
-        random: &mut Random,
-        table: &Table,
-        n: usize,
-        number: u8,
-    ) -> Result<Trip, String> {
-        let key = tables::key(random, table);
-        let entry = table.registry.iter().find(|entry| entry.context == key.context);
-        let addresses = match entry.map(|entry| entry.kind) {
-            Some(2) => [key.address[..key.length.into()].to_vec(), tables::address(random)],
-            _ => [vec![], vec![]],
-        };
+    /// All the segments of new data.
+    fn cut(&self, random: &mut Random, table: &Table, n: usize, key: &Key) -> Result<Trip, String> {
         let mut trip = Trip {
-            context: key.context,
+            key: *key,
             instruction: random.below(4) as u8,
-            reference: 40 + number,
-            association: key.association,
             data: random.octets(n),
-            rooms: rooms(random, header(key.context, entry, &addresses), n),
-            addresses,
+            rooms: rooms(random, header(table, key), n),
             segments: vec![],
             count: 1,
         };
@@ -107,11 +93,11 @@ impl Ends<'_> {
 
     fn send(&self, trip: &mut Trip, table: &Table) -> Result<Vec<u8>, String> {
         let [room1, room] = trip.rooms;
-        let Trip { context, instruction, reference, .. } = *trip;
-        let number = trip.segments.len();
+        let (instruction, number) = (trip.instruction, trip.segments.len());
+        let Key { context, reference, .. } = trip.key;
         let request = Request { context, instruction, reference, room1, room, number };
         let mut area = [0; PARAMETER];
-        let [origin, destination] = &trip.addresses;
+        let [origin, destination] = trip.addresses();
         let sent = self.sender.sending(*table, request, origin, destination, &trip.data, &mut area);
         let first = number == 0;
         if sent.refusal != 0 || !first && usize::from(sent.count) != trip.count {
@@ -144,7 +130,7 @@ impl Ends<'_> {
             &mut totals,
             &mut saved,
             &mut report,
-            trip.association,
+            trip.key.association,
             &segment,
         );
         let refused = Received { table, refusal: 23, ..Received::default() };
@@ -170,7 +156,7 @@ impl Ends<'_> {
         let before = *table;
         let mut report = [0; RECORD];
         let segment = trip.segments.pop().unwrap_or_default();
-        let Trip { association, .. } = *trip;
+        let association = trip.key.association;
         let got = self.receiver.segment(before, summary, store, &mut report, association, &segment);
         *table = got.table;
         let last = trip.segments.is_empty();
@@ -208,37 +194,44 @@ impl Trip {
     /// What the whole trip adds: all of it is taken, and all of it is delivered.
     fn bill(&self, summary: &mut Summary) {
         let unused = || summary.mark.iter().position(|mark| *mark == 0);
-        let row = summaries::row_of(summary, self.association).or_else(unused);
+        let row = summaries::row_of(summary, self.key.association).or_else(unused);
         let row = row.expect("a roomy summary");
-        (summary.mark[row], summary.association[row]) = (1, self.association.into());
+        (summary.mark[row], summary.association[row]) = (1, self.key.association.into());
         for column in [0, 2] {
             summary.totals[column][row] += self.count as u64;
             summary.totals[column + 1][row] += self.data.len() as u64;
         }
     }
 
-    /// The record of its delivery, octet by octet from document 01's table.
+    /// The octets of origin and destination.
+    fn addresses(&self) -> [&[u8]; 2] {
+        [self.key.origin.counting(), self.key.destination.counting()]
+    }
+
+    /// The record of its delivery, octet by octet from the documents' tables.
     fn record(&self) -> Vec<u8> {
-        let reference = if self.count == 1 { UNSEGMENTED } else { self.reference };
-        let mut record = vec![16];
-        record.extend(self.association.to_be_bytes());
-        record.extend(self.context.to_be_bytes());
+        let reference = if self.count == 1 { UNSEGMENTED } else { self.key.reference };
+        let mut record = vec![18];
+        record.extend(self.key.association.to_be_bytes());
+        record.extend(self.key.context.to_be_bytes());
         record.extend([reference, self.instruction, 0, self.count as u8]);
         record.extend((self.data.len() as u16).to_be_bytes());
-        record.push(self.addresses[0].len() as u8);
-        record.extend(&self.addresses[0]);
-        record.resize(RECORD, 0);
+        for address in self.addresses() {
+            record.push(address.len() as u8);
+            record.extend(address);
+            record.extend(vec![0; 20 - address.len()]);
+        }
         record
     }
 
     fn failed(&self, why: &str, table: &Table) -> String {
-        let [origin, destination] = &self.addresses;
+        let [origin, destination] = self.addresses();
         format!(
             "round trip: {why}\ncontext {}, instruction {}, reference {}, association {}, rooms {:?}\norigin: {}\ndestination: {}\ndata: {}\ntable: {}\n",
-            self.context,
+            self.key.context,
             self.instruction,
-            self.reference,
-            self.association,
+            self.key.reference,
+            self.key.association,
             self.rooms,
             hex(origin),
             hex(destination),
@@ -248,10 +241,28 @@ impl Trip {
     }
 }
 
-fn header(context: u16, entry: Option<&Entry>, addresses: &[Vec<u8>; 2]) -> usize {
+/// The key of a new trip. Its reference keeps it apart from the others, and from all that is open;
+/// or it differs from the trip before it in the destination alone.
+fn key(random: &mut Random, table: &Table, trips: &[Trip], number: u8) -> Key {
+    let other = trips.last().map(|trip| trip.key);
+    let other = other.filter(|key| tables::kind(table, key.context) == 2 && !random.one_in(3));
+    let Some(other) = other else {
+        return Key { reference: 40 + number, ..tables::key(random, table) };
+    };
+    loop {
+        let destination = tables::near(random, &other.destination);
+        let key = Key { destination, ..other };
+        if trips.iter().all(|trip| trip.key != key) {
+            return key;
+        }
+    }
+}
+
+fn header(table: &Table, key: &Key) -> usize {
+    let lengths = [key.origin.length, key.destination.length].map(usize::from);
     let fields =
-        if entry.is_some_and(|entry| entry.kind == 2) { 2 + addresses.concat().len() } else { 0 };
-    fields + 2 + if context > 127 { 2 } else { 1 }
+        if tables::kind(table, key.context) == 2 { 2 + lengths[0] + lengths[1] } else { 0 };
+    fields + 2 + if key.context > 127 { 2 } else { 1 }
 }
 
 /// A segment with its context in two octets, if one does and there is room for another.

@@ -1,13 +1,15 @@
 //! Tables that are not sound: each rule of document 01's "Sound means" broken alone, and any bits.
 
 use crate::random::Random;
-use crate::tables::{any_u32, open_place, sound, sound_with, unregistered};
+use crate::tables::{any_u32, kind, open_place, sound, sound_with, unregistered};
 use model::*;
 
 /// The kind of an open place's context.
 fn open_kind(table: &Table, place: &Place) -> u8 {
-    let of = |entry: &&Entry| place.mark == 1 && entry.context == place.key.context;
-    table.registry.iter().find(of).map_or(0, |entry| entry.kind)
+    match place.mark {
+        1 => kind(table, place.key.context),
+        _ => 0,
+    }
 }
 
 /// One with something of everything: both kinds, used and unused entries, open and free places.
@@ -23,7 +25,7 @@ fn rich(random: &mut Random) -> Table {
 }
 
 /// The rules of soundness, each of which is broken alone.
-pub const RULES: [&str; 24] = [
+pub const RULES: [&str; 28] = [
     "T is 0",
     "T is over 1,000,000",
     "registered context is 0",
@@ -34,6 +36,7 @@ pub const RULES: [&str; 24] = [
     "mark of an open place is over 1",
     "mark of a free place is over 1",
     "free place is not all zero",
+    "free place has a destination",
     "open place's context is not registered",
     "reference is over 127",
     "instruction is over 3",
@@ -42,9 +45,12 @@ pub const RULES: [&str; 24] = [
     "no segment",
     "segments plus remaining is over 10",
     "octets over 2,048",
-    "address over 20",
-    "address not zero filled",
-    "address with a context of 1998",
+    "origin over 20",
+    "origin not zero filled",
+    "origin with a context of 1998",
+    "destination over 20",
+    "destination not zero filled",
+    "destination with a context of 1998",
     "age is T or more",
     "start is after the clock",
     "two open places share a key",
@@ -55,7 +61,8 @@ pub fn unsound(random: &mut Random, rule: usize) -> Table {
     let mut table = rich(random);
     match rule {
         0..=6 => break_head(random, &mut table, rule),
-        7..=17 => break_place(random, &mut table, rule),
+        7..=18 => break_place(random, &mut table, rule),
+        19..=24 => break_address(random, &mut table, rule - 19),
         _ => break_key(random, &mut table, rule),
     }
     table
@@ -98,13 +105,14 @@ fn break_place(random: &mut Random, table: &mut Table, rule: usize) {
         7 => place.mark = random.within(2..=255) as u8,
         8 => table.places[free].mark = random.within(2..=255) as u8,
         9 => dirty(random, &mut table.places[free]),
-        10 => place.key.context = context,
-        11 => place.key.reference = beyond,
-        12 => place.instruction = random.within(4..=255) as u8,
-        13 => place.remaining = 0,
-        14 => (place.remaining, place.segments) = (random.within(10..=255) as u8, 1),
-        15 => place.segments = 0,
-        16 => {
+        10 => dirty_address(random, &mut table.places[free].key.destination),
+        11 => place.key.context = context,
+        12 => place.key.reference = beyond,
+        13 => place.instruction = random.within(4..=255) as u8,
+        14 => place.remaining = 0,
+        15 => (place.remaining, place.segments) = (random.within(10..=255) as u8, 1),
+        16 => place.segments = 0,
+        17 => {
             let most = 10 - place.remaining;
             place.segments = random.pick(&[most + 1, 10, 255 - place.remaining, 255]).max(most + 1);
         }
@@ -116,11 +124,10 @@ fn break_place(random: &mut Random, table: &mut Table, rule: usize) {
 fn dirty(random: &mut Random, place: &mut Place) {
     let octet = random.within(1..=255) as u8;
     match random.below(10) {
-        0 => place.key.address[random.below(ADDRESS)] = octet,
-        1 => place.key.association = random.pick(&[1, 256]),
-        2 => place.key.context = random.pick(&[1, 256]),
-        3 => place.key.reference = octet,
-        4 => place.key.length = octet,
+        0 | 1 => dirty_address(random, &mut place.key.origin),
+        2 => place.key.association = random.pick(&[1, 256]),
+        3 => place.key.context = random.pick(&[1, 256]),
+        4 => place.key.reference = octet,
         5 => place.octets = random.pick(&[1, 256]),
         6 => place.start = 1 << random.below(32),
         7 => place.instruction = octet,
@@ -129,30 +136,51 @@ fn dirty(random: &mut Random, place: &mut Place) {
     }
 }
 
-fn break_key(random: &mut Random, table: &mut Table, rule: usize) {
+/// The length or one octet that is not zero.
+fn dirty_address(random: &mut Random, address: &mut Address) {
+    let octet = random.within(1..=255) as u8;
+    match random.below(3) {
+        0 => address.length = octet,
+        _ => address.octets[random.below(ADDRESS)] = octet,
+    }
+}
+
+/// The three rules of an open place's address: of its origin, then of its destination.
+fn break_address(random: &mut Random, table: &mut Table, rule: usize) {
     let old = some(random, |i| open_kind(table, &table.places[i]) == 1);
     let new = some(random, |i| open_kind(table, &table.places[i]) == 2);
-    let any = random.pick(&[old, new]);
+    let index = match rule % 3 {
+        0 => new,
+        1 => random.pick(&[old, new]),
+        _ => old,
+    };
+    let over = random.within(21..=255) as u8;
+    let key = &mut table.places[index].key;
+    let address = if rule < 3 { &mut key.origin } else { &mut key.destination };
+    match rule % 3 {
+        0 => address.length = random.pick(&[21, over]),
+        1 => {
+            address.length = address.length.min(19);
+            let length = usize::from(address.length);
+            address.octets[length..].fill(0);
+            address.octets[random.within(length..=19)] = random.within(1..=255) as u8;
+        }
+        _ => {
+            address.length = random.within(1..=20) as u8;
+            address.octets[0] = random.pick(&[0, 7]);
+        }
+    }
+}
+
+fn break_key(random: &mut Random, table: &mut Table, rule: usize) {
+    let any = some(random, |i| table.places[i].mark == 1);
     let (timer, clock) = (table.timer, table.clock);
     match rule {
-        18 => table.places[new].key.length = random.within(21..=255) as u8,
-        19 => {
-            let key = &mut table.places[any].key;
-            key.length = key.length.min(19);
-            let length = usize::from(key.length);
-            key.address[length..].fill(0);
-            key.address[random.within(length..=19)] = random.within(1..=255) as u8;
-        }
-        20 => {
-            let key = &mut table.places[old].key;
-            key.length = random.within(1..=20) as u8;
-            key.address[0] = random.pick(&[0, 7]);
-        }
-        21 => {
+        25 => {
             let age = random.pick(&[timer, timer + 1, 1 << 31, u32::MAX - 200]);
             table.places[any].start = clock.wrapping_sub(age);
         }
-        22 => table.places[any].start = clock.wrapping_add(random.within(1..=9) as u32),
+        26 => table.places[any].start = clock.wrapping_add(random.within(1..=9) as u32),
         _ => {
             let free = some(random, |i| table.places[i].mark == 0);
             let key = table.places[any].key;
@@ -182,28 +210,33 @@ pub fn damaged(random: &mut Random) -> Table {
 }
 
 fn any_place(random: &mut Random) -> Place {
-    let mut key = Key { association: random.next() as u16, ..Key::default() };
-    random.fill(&mut key.address);
-    let [reference, length, mark, instruction, remaining, segments, ..] =
-        random.next().to_le_bytes();
-    key = Key { context: random.next() as u16, reference, length, ..key };
+    let mut address =
+        || Address { octets: [(); ADDRESS].map(|()| random.octet()), length: random.octet() };
+    let (origin, destination) = (address(), address());
+    let (association, context) = (random.next() as u16, random.next() as u16);
+    let [reference, mark, instruction, remaining, segments, ..] = random.next().to_le_bytes();
+    let key = Key { association, context, origin, destination, reference };
     let (octets, start) = (random.next() as u16, any_u32(random));
     Place { key, octets, start, mark, instruction, remaining, segments }
 }
 
 fn turn(random: &mut Random, places: &mut [Place; PLACES], bit: u8) {
     let place = &mut places[random.below(PLACES)];
-    match random.below(11) {
-        0 => place.key.address[random.below(ADDRESS)] ^= bit,
-        1 => place.key.association ^= u16::from(bit) << random.pick(&[0, 8]),
-        2 => place.key.context ^= u16::from(bit) << random.pick(&[0, 8]),
-        3 => place.key.reference ^= bit,
-        4 => place.key.length ^= bit,
+    let address = match random.one_in(2) {
+        true => &mut place.key.origin,
+        false => &mut place.key.destination,
+    };
+    match random.below(12) {
+        0 | 1 => address.octets[random.below(ADDRESS)] ^= bit,
+        2 => address.length ^= bit,
+        3 => place.key.association ^= u16::from(bit) << random.pick(&[0, 8]),
+        4 => place.key.context ^= u16::from(bit) << random.pick(&[0, 8]),
         5 => place.octets ^= u16::from(bit) << random.pick(&[0, 8]),
         6 => place.start ^= 1 << random.below(32),
         7 => place.mark ^= bit,
         8 => place.instruction ^= bit,
         9 => place.remaining ^= bit,
-        _ => place.segments ^= bit,
+        10 => place.segments ^= bit,
+        _ => place.key.reference ^= bit,
     }
 }

@@ -18,7 +18,7 @@ use model::*;
 /// Words of the painted area: 128 KiB, far more than any call takes.
 const WORDS: usize = 16_384;
 /// The arguments on the stack take less than this many words.
-const ARGUMENTS: usize = 128;
+const ARGUMENTS: usize = 256;
 const NAMES: [&str; 6] = ["opening", "segment", "clock", "release", "delivery", "sending"];
 
 /// The library, called on the painted stack. The areas are checked nowhere: the calls are those

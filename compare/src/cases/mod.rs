@@ -5,6 +5,7 @@ mod receiving;
 mod sending;
 
 use crate::input::{Answer, Input};
+use crate::pair::LONGEST_REPORT;
 use crate::random::Random;
 use crate::summaries;
 use crate::tables;
@@ -269,7 +270,7 @@ fn damage_entries(random: &mut Random, entries: &mut Vec<Entry>) {
     let context = tables::context(random);
     entries.truncate(ENTRIES - 1);
     let bad = match random.below(5) {
-        0 => Entry { context, kind: random.pick(&[0, 3, 16, 17, 32, 255]) },
+        0 => Entry { context, kind: random.pick(&[0, 3, 16, 17, 18, 19, 32, 255]) },
         1 => Entry { context: 0, kind },
         2 => Entry { context: random.pick(&[16_384, 32_771, u16::MAX]), kind },
         3 if !entries.is_empty() => Entry { kind, ..random.pick(entries) },
@@ -314,7 +315,7 @@ fn due_step(random: &mut Random, table: &Table) -> u32 {
 
 fn sweep_room(random: &mut Random, held: &[u8]) -> usize {
     match held.contains(&3) {
-        true => random.pick(&[511, 511, 480, 32, 31, 0]),
-        false => random.pick(&[512, 512, 513, 576]),
+        true => random.pick(&[SWEEP - 1, SWEEP - 1, SWEEP - RECORD, OLD_SWEEP, RECORD, 0]),
+        false => random.pick(&[SWEEP, SWEEP, SWEEP + 1, LONGEST_REPORT]),
     }
 }

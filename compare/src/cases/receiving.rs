@@ -51,8 +51,8 @@ fn rooms(random: &mut Random, held: &[u8]) -> (usize, usize) {
         false => random.pick(&[32_768, 32_768, 32_769, 36_864]),
     };
     let report = match held.contains(&3) {
-        true => random.pick(&[31, 31, 1, 0]),
-        false => random.pick(&[32, 32, 33, 512]),
+        true => random.pick(&[RECORD - 1, RECORD - 1, OLD_RECORD, 1, 0]),
+        false => random.pick(&[RECORD, RECORD, RECORD + 1, SWEEP]),
     };
     (store, report)
 }

@@ -1,6 +1,6 @@
 //! Reading octets from left to right.
 
-use crate::{Refusal, ADDRESS};
+use crate::{Address, Refusal, ADDRESS};
 
 const EXTENSION: u8 = 0x80;
 
@@ -53,9 +53,9 @@ impl<'a> Cursor<'a> {
     }
 
     /// An address with its length octet. The length is judged before its octets are looked for.
-    pub fn address(&mut self) -> Result<&'a [u8], Refusal> {
+    pub fn address(&mut self) -> Result<Address, Refusal> {
         let length = usize::from(self.octet().ok_or(Refusal::Cut)?);
         Refusal::LongAddress.unless(length <= ADDRESS)?;
-        self.take(length).ok_or(Refusal::Cut)
+        self.take(length).map(Address::of).ok_or(Refusal::Cut)
     }
 }

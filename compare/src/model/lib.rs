@@ -1,4 +1,4 @@
-//! The model: a second implementation of document 01 (01-scope.md) and of A1 and A2 of document 02
+//! The model: a second implementation of document 01 (01-scope.md) and of A1 to A3 of document 02
 //! (02-change-requests.md), against which the proved library is compared call by call.
 //!
 //! Independence. It was written from document 01 and the team's readings of it (readings.md);
@@ -10,7 +10,9 @@
 //! records program prints (`listing`) was added from its format by one who had read the library's
 //! decisions, and not its rules or code. A1 (`summary`, and what the totals program prints) was
 //! written from document 02 and the readings, by one who had read of the library its C header; and
-//! so was A2 (refusal 23, in `segment`), when that header had nothing of it yet.
+//! so was A2 (refusal 23, in `segment`), when that header had nothing of it yet. A3 (the destination
+//! in key, place, record and listing) was written from the same, the header having its shapes, before
+//! there was a library that had it.
 //!
 //! Style. Bits are first read into small types in which only what is good can be written: a
 //! `Cursor` and `?` for the octets, `Position` for octets 3 and 3a, `Line` for the receiving

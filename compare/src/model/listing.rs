@@ -4,7 +4,8 @@
 use std::fmt::Write;
 
 use crate::record::{Covered, Record};
-use crate::{Decision, Fault, Replay, ADDRESS, RECORD, UNSEGMENTED};
+use crate::{Decision, Fault, Replay};
+use crate::{ADDRESS, DELIVERED, DESTINATION_AT, ORIGIN_AT, RECORD, UNSEGMENTED};
 
 impl<const B: bool> Replay<B> {
     /// The rest of an event's line: its number, and what was decided.
@@ -22,7 +23,7 @@ impl<const B: bool> Replay<B> {
     /// The records that this call made.
     pub(crate) fn records(&self, count: usize, text: &mut String) {
         for record in self.report.chunks_exact(RECORD).take(count) {
-            self.covered(if record[0] == 16 { "delivered" } else { "lost" }, record, text);
+            self.covered(if record[0] == DELIVERED { "delivered" } else { "lost" }, record, text);
         }
     }
 
@@ -57,18 +58,35 @@ impl<const B: bool> Replay<B> {
             UNSEGMENTED if !self.model.broken(Fault::ReferenceAlways) => "-".to_string(),
             reference => reference.to_string(),
         };
-        let origin = self.origin(record[11], &record[12..]);
-        writeln!(text, "{name} {association} {context} {reference} {instruction} {cause} {segments} {octets} {origin}")
-            .expect("a string takes it");
+        write!(
+            text,
+            "{name} {association} {context} {reference} {instruction} {cause} {segments} {octets}"
+        )
+        .expect("a string takes it");
+        self.addresses(record, text);
+        text.push('\n');
     }
 
-    fn origin(&self, length: u8, address: &[u8]) -> String {
-        let length = match length {
+    /// A record's origin and destination.
+    fn addresses(&self, record: &[u8], text: &mut String) {
+        let origin = self.address(&record[ORIGIN_AT..], Fault::OriginNoLength);
+        let destination = self.address(&record[DESTINATION_AT..], Fault::DestinationWhole);
+        let written = match self.model.fault() {
+            Some(Fault::DestinationUntold) => write!(text, " {origin}"),
+            Some(Fault::DestinationAsOrigin) => write!(text, " {origin} {origin}"),
+            _ => write!(text, " {origin} {destination}"),
+        };
+        written.expect("a string takes it");
+    }
+
+    /// An address in hex, from its length octet on.
+    fn address(&self, octets: &[u8], whole: Fault) -> String {
+        let length = match octets[0] {
             0 => return "-".to_string(),
-            _ if self.model.broken(Fault::OriginNoLength) => ADDRESS,
+            _ if self.model.broken(whole) => ADDRESS,
             length => length.into(),
         };
-        address[..length].iter().map(|octet| format!("{octet:02X}")).collect()
+        octets[1..][..length].iter().map(|octet| format!("{octet:02X}")).collect()
     }
 
     /// The last opening with its used rows, and nothing where there was none.

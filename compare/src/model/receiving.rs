@@ -2,10 +2,10 @@
 
 use crate::record::{Covered, Record};
 use crate::segment::{Position, Segment};
-use crate::sound::OPEN;
+use crate::sound::{without_destination, OPEN};
 use crate::summary::{bill, Bill, Seats};
-use crate::{Decision, Fault, Key, Machine, Place, Received, Refusal, Summary, Table};
-use crate::{PARAMETER, PLACES, RECORD, STORE, STRETCH};
+use crate::{Address, Decision, Fault, Key, Machine, Place, Received, Refusal, Summary, Table};
+use crate::{OLD_RECORD, PARAMETER, PLACES, RECORD, STORE, STRETCH};
 
 /// The receiving line that applies, with the place it concerns.
 #[derive(Clone, Copy, Debug)]
@@ -77,7 +77,8 @@ impl<const B: bool> Machine<B> {
                 if self.broken(Fault::RefusedCounted) && refusal != Refusal::Unsound {
                     count_refused(summary, association);
                 }
-                Received { table, refusal: refusal.number(), ..Received::default() }
+                let (decision, refusal) = (Decision::default(), refusal.number());
+                Received { table, decision, refusal, records: 0 }
             }
         }
     }
@@ -95,7 +96,8 @@ impl<const B: bool> Machine<B> {
         let mut seats = Seats::EMPTY;
         self.take_seats(&mut seats, summary, &table.places)?;
         Refusal::ShortStore.unless(lengths.store >= STORE)?;
-        Refusal::ShortReport.unless(lengths.report >= RECORD)?;
+        let least = if self.broken(Fault::OldReport) { OLD_RECORD } else { RECORD };
+        Refusal::ShortReport.unless(lengths.report >= least)?;
         Refusal::LongParameter.unless(parameter.len() <= PARAMETER)?;
         let segment = self.read(table, association, parameter)?;
         if self.broken(Fault::RowBeforeFull) {
@@ -201,11 +203,9 @@ impl<const B: bool> Machine<B> {
     }
 
     fn same(&self, a: &Key, b: &Key) -> bool {
-        let rest = |key: &Key| (key.association, key.context, key.reference);
         match self.fault() {
-            Some(Fault::AddressNumber) => rest(a) == rest(b) && number(a).eq(number(b)),
-            Some(Fault::AddressNoLength) => rest(a) == rest(b) && a.address == b.address,
-            _ => a == b,
+            Some(fault) => seen(fault, a) == seen(fault, b),
+            None => a == b,
         }
     }
 
@@ -220,12 +220,12 @@ impl<const B: bool> Machine<B> {
 
     fn effect(&self, table: &Table, segment: &Segment, line: Line) -> Effect {
         match line {
-            Line::Unsegmented => alone(segment),
-            Line::TooMany(None) => lost(4, None, Covered::this(segment), None),
+            Line::Unsegmented => self.alone(segment),
+            Line::TooMany(None) => lost(4, None, self.this(segment), None),
             Line::TooMany(Some(index)) => self.broken_off(4, table, index, segment),
             Line::Restart(index) => self.restart(table, index, segment),
             Line::Begin(index) => saved(index, first(table, segment), index * STRETCH),
-            Line::Orphan => lost(1, None, Covered::this(segment), None),
+            Line::Orphan => lost(1, None, self.this(segment), None),
             Line::OutOfTurn(index) => self.broken_off(2, table, index, segment),
             Line::TooLong(index) => self.broken_off(5, table, index, segment),
             Line::Finish(index) => self.finish(table, index, segment),
@@ -249,11 +249,29 @@ impl<const B: bool> Machine<B> {
         if let Some(start) = effect.write {
             store[start..][..segment.information.len()].copy_from_slice(segment.information);
         }
-        if let Some(record) = &effect.record {
-            report[..RECORD].copy_from_slice(&self.octets(record));
+        // The report has been judged; only with its old length there is no room.
+        if let (Some(record), Some(slot)) = (&effect.record, report.first_chunk_mut()) {
+            *slot = self.octets(record);
         }
         let records = effect.record.iter().count() as u8;
         Received { table, decision: effect.decision, refusal: 0, records }
+    }
+
+    /// A segment that was never saved: the record has its own addresses.
+    fn this(&self, segment: &Segment) -> Covered {
+        let mut covered = Covered::this(segment);
+        if self.broken(Fault::DestinationOfSaved) {
+            covered.key = without_destination(&covered.key);
+        }
+        covered
+    }
+
+    fn alone(&self, segment: &Segment) -> Effect {
+        let Segment { start, information, .. } = *segment;
+        let decision =
+            Decision { kind: 2, start, length: information.len(), ..Decision::default() };
+        let record = Record { cause: 0, covered: self.this(segment) };
+        Effect { decision, record: Some(record), place: None, write: None }
     }
 
     /// What was saved is lost; the new first segment takes its place.
@@ -326,13 +344,6 @@ impl<const B: bool> Machine<B> {
     }
 }
 
-fn alone(segment: &Segment) -> Effect {
-    let Segment { start, information, .. } = *segment;
-    let decision = Decision { kind: 2, start, length: information.len(), ..Decision::default() };
-    let record = Record { cause: 0, covered: Covered::this(segment) };
-    Effect { decision, record: Some(record), place: None, write: None }
-}
-
 fn saved(index: usize, place: Place, write: usize) -> Effect {
     let decision = Decision { kind: 1, place: index, ..Decision::default() };
     Effect { decision, record: None, place: Some((index, place)), write: Some(write) }
@@ -362,9 +373,25 @@ fn first(table: &Table, segment: &Segment) -> Place {
     }
 }
 
-/// For `Fault::AddressNumber`: the address's octets without its leading zeros.
-fn number(key: &Key) -> impl Iterator<Item = &u8> {
-    key.address[..key.length.into()].iter().skip_while(|octet| **octet == 0)
+/// A key as a fault of comparing sees it.
+fn seen(fault: Fault, key: &Key) -> Key {
+    let mut seen = *key;
+    match fault {
+        Fault::AddressNumber => seen.origin = number(&key.origin),
+        Fault::AddressNoLength => seen.origin.length = 0,
+        Fault::DestinationNumber => seen.destination = number(&key.destination),
+        Fault::DestinationNoLength => seen.destination.length = 0,
+        Fault::DestinationIgnored => seen = without_destination(key),
+        _ => {}
+    }
+    seen
+}
+
+/// An address without its leading zeros.
+fn number(address: &Address) -> Address {
+    let counting = address.counting();
+    let zeros = counting.iter().take_while(|octet| **octet == 0).count();
+    Address::of(&counting[zeros..])
 }
 
 /// For `Fault::RefusedCounted`.

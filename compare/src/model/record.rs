@@ -1,7 +1,8 @@
 //! Records of deliveries and losses.
 
 use crate::segment::Segment;
-use crate::{Fault, Key, Machine, Place, RECORD};
+use crate::{Address, Fault, Key, Machine, Place};
+use crate::{ADDRESS, DELIVERED, DESTINATION_AT, LOST, ORIGIN_AT, RECORD};
 
 /// What a record covers: saved segments, a segment that was never saved, or both.
 #[derive(Clone, Copy, Debug)]
@@ -45,7 +46,7 @@ impl<const B: bool> Machine<B> {
     pub(crate) fn octets(&self, record: &Record) -> [u8; RECORD] {
         let Covered { key, instruction, segments, octets } = record.covered;
         let mut out = [0; RECORD];
-        out[0] = if record.cause == 0 { 16 } else { 17 };
+        out[0] = if record.cause == 0 { DELIVERED } else { LOST };
         out[1..3].copy_from_slice(&key.association.to_be_bytes());
         out[3..5].copy_from_slice(&key.context.to_be_bytes());
         out[5..9].copy_from_slice(&[key.reference, instruction, record.cause, segments]);
@@ -53,8 +54,18 @@ impl<const B: bool> Machine<B> {
         if self.broken(Fault::RecordLittleEndian) {
             out[9..11].copy_from_slice(&octets.to_le_bytes());
         }
-        out[11] = key.length;
-        out[12..].copy_from_slice(&key.address);
+        put(&mut out, ORIGIN_AT, &key.origin);
+        put(&mut out, DESTINATION_AT, &key.destination);
+        match self.fault() {
+            Some(Fault::OldKinds) => out[0] -= 2,
+            Some(Fault::OriginRecorded) => put(&mut out, DESTINATION_AT, &key.origin),
+            _ => {}
+        }
         out
     }
+}
+
+fn put(record: &mut [u8; RECORD], at: usize, address: &Address) {
+    record[at] = address.length;
+    record[at + 1..][..ADDRESS].copy_from_slice(&address.octets);
 }

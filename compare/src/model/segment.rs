@@ -1,7 +1,7 @@
 //! A parameter read into its fields.
 
 use crate::cursor::Cursor;
-use crate::{Fault, Key, Machine, Refusal, Table, ADDRESS, UNSEGMENTED};
+use crate::{Address, Fault, Key, Machine, Refusal, Table, UNSEGMENTED};
 
 /// Which edition's layout a registered context has.
 #[derive(Clone, Copy, Debug, PartialEq, Eq)]
@@ -67,12 +67,15 @@ impl<const B: bool> Machine<B> {
         let spare = if self.broken(Fault::SpareRead) { 0x7f } else { 0b11 };
         let instruction = cursor.last()? & spare;
         let (position, reference) = self.position(&mut cursor)?;
-        let mut origin: &[u8] = &[];
+        let [mut origin, mut destination] = [Address::default(); 2];
         if edition == Edition::Of2000 {
             origin = self.address(&mut cursor)?;
-            self.address(&mut cursor)?;
+            destination = self.address(&mut cursor)?;
         }
-        let key = key(association, context, reference, origin);
+        if self.broken(Fault::AddressesSwapped) {
+            std::mem::swap(&mut origin, &mut destination);
+        }
+        let key = Key { association, context, origin, destination, reference };
         let information = cursor.rest();
         let start = parameter.len() - information.len();
         Ok(Segment { key, instruction, position, start, information })
@@ -126,17 +129,11 @@ impl<const B: bool> Machine<B> {
         }
     }
 
-    fn address<'a>(&self, cursor: &mut Cursor<'a>) -> Result<&'a [u8], Refusal> {
+    fn address(&self, cursor: &mut Cursor) -> Result<Address, Refusal> {
         if self.broken(Fault::AddressLate) {
             let length = cursor.rest().first().map_or(0, |length| usize::from(*length));
             Refusal::Cut.unless(length < cursor.rest().len())?;
         }
         cursor.address()
     }
-}
-
-fn key(association: u16, context: u16, reference: u8, origin: &[u8]) -> Key {
-    let mut address = [0; ADDRESS];
-    address[..origin.len()].copy_from_slice(origin);
-    Key { address, association, context, reference, length: origin.len() as u8 }
 }

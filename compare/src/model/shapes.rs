@@ -8,10 +8,20 @@ pub const ENTRIES: usize = 8;
 /// Octets of the store that belong to one place; also the most data a sequence may carry.
 pub const STRETCH: usize = 2_048;
 pub const STORE: usize = PLACES * STRETCH;
-pub const RECORD: usize = 32;
+pub const ADDRESS: usize = 20;
+/// The kinds of records.
+pub const DELIVERED: u8 = 18;
+pub const LOST: u8 = 19;
+/// Where a record has its addresses: a length octet each, and the octets after it.
+pub const ORIGIN_AT: usize = 11;
+pub const DESTINATION_AT: usize = ORIGIN_AT + 1 + ADDRESS;
+/// A record's octets, and so the least report area of a segment.
+pub const RECORD: usize = DESTINATION_AT + 1 + ADDRESS;
 /// A clock or a release may end every sequence of the table.
 pub const SWEEP: usize = PLACES * RECORD;
-pub const ADDRESS: usize = 20;
+/// The same before A3, when a record had no destination.
+pub const OLD_RECORD: usize = DESTINATION_AT;
+pub const OLD_SWEEP: usize = PLACES * OLD_RECORD;
 pub const PARAMETER: usize = 255;
 pub const SEGMENTS: usize = 10;
 pub const TIMERS: RangeInclusive<u32> = 1..=1_000_000;
@@ -32,14 +42,55 @@ pub const TOTALS: [&str; 6] = [
     "octets lost",
 ];
 
+/// The octets that count, filled up with zeros.
 #[repr(C)]
-#[derive(Clone, Copy, Debug, Default, PartialEq, Eq)]
+#[derive(Clone, Copy, Debug, Default, Eq)]
+pub struct Address {
+    pub octets: [u8; ADDRESS],
+    pub length: u8,
+}
+
+impl Address {
+    pub const EMPTY: Address = Address { octets: [0; ADDRESS], length: 0 };
+
+    /// Of at most 20 octets.
+    pub fn of(counting: &[u8]) -> Address {
+        let mut octets = [0; ADDRESS];
+        octets[..counting.len()].copy_from_slice(counting);
+        Address { octets, length: counting.len() as u8 }
+    }
+
+    /// The octets that count; all of them where the length is too large.
+    pub fn counting(&self) -> &[u8] {
+        &self.octets[..ADDRESS.min(self.length.into())]
+    }
+}
+
+impl PartialEq for Address {
+    fn eq(&self, other: &Address) -> bool {
+        self.length == other.length && self.octets == other.octets
+    }
+}
+
+#[repr(C)]
+#[derive(Clone, Copy, Debug, Default, Eq)]
 pub struct Key {
     pub association: u16,
     pub context: u16,
-    pub address: [u8; ADDRESS],
-    pub length: u8,
+    pub origin: Address,
+    pub destination: Address,
     pub reference: u8,
+}
+
+impl PartialEq for Key {
+    /// The numbers first: they tell most keys apart.
+    fn eq(&self, other: &Key) -> bool {
+        self.association == other.association
+            && self.context == other.context
+            && self.reference == other.reference
+            && self.origin == other.origin
+            && self.destination == other.destination
+    }
 }
 
 #[repr(C)]
@@ -52,6 +103,25 @@ pub struct Place {
     pub instruction: u8,
     pub remaining: u8,
     pub segments: u8,
+}
+
+impl Place {
+    /// As the default: a constant is quicker to compare with.
+    pub const FREE: Place = Place {
+        key: Key {
+            association: 0,
+            context: 0,
+            origin: Address::EMPTY,
+            destination: Address::EMPTY,
+            reference: 0,
+        },
+        octets: 0,
+        start: 0,
+        mark: 0,
+        instruction: 0,
+        remaining: 0,
+        segments: 0,
+    };
 }
 
 #[repr(C)]

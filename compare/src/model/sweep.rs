@@ -3,7 +3,8 @@
 use crate::record::{Covered, Record};
 use crate::sound::age;
 use crate::summary::{bill, Bill, Seats};
-use crate::{Fault, Machine, Place, Refusal, Summary, Swept, Table, PLACES, RECORD, ROWS, SWEEP};
+use crate::{Fault, Machine, Place, Refusal, Summary, Swept, Table};
+use crate::{OLD_SWEEP, PLACES, RECORD, ROWS, SWEEP};
 
 const HALF: u32 = 1 << 31;
 
@@ -138,7 +139,8 @@ impl<const B: bool> Machine<B> {
     ) -> Result<(), Refusal> {
         self.sound(table)?;
         self.take_seats(seats, summary, &table.places)?;
-        Refusal::ShortReport.unless(report >= SWEEP)
+        let least = if self.broken(Fault::OldSweep) { OLD_SWEEP } else { SWEEP };
+        Refusal::ShortReport.unless(report >= least)
     }
 
     /// Refusal 22: the losses of one association count by their sum.

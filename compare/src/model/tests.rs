@@ -1,4 +1,4 @@
-//! Document 01's worked examples, and the rules of A1 and A2.
+//! Document 01's worked examples, and the rules of A1, A2 and A3.
 
 use crate::*;
 
@@ -67,14 +67,27 @@ impl Host {
     }
 }
 
-/// A record's octets without the trailing zeros of its address.
-fn record(kind: u8, context: u8, fields: [u8; 4], octets: u16, origin: &[u8]) -> Vec<u8> {
-    let [high, low] = octets.to_be_bytes();
+/// A record's octets, where there are no addresses.
+fn record(kind: u8, context: u8, fields: [u8; 4], octets: u16) -> Vec<u8> {
+    addressed(kind, context, fields, octets, [&[], &[]])
+}
+
+/// The same with the addresses.
+fn addressed(
+    kind: u8,
+    context: u8,
+    fields: [u8; 4],
+    octets: u16,
+    addresses: [&[u8]; 2],
+) -> Vec<u8> {
     let mut record = vec![kind, 0, 9, 0, context];
     record.extend(fields);
-    record.extend([high, low, origin.len() as u8]);
-    record.extend(origin);
-    record.resize(RECORD, 0);
+    record.extend(octets.to_be_bytes());
+    for address in addresses {
+        record.push(address.len() as u8);
+        record.extend(address);
+        record.extend(vec![0; 20 - address.len()]);
+    }
     record
 }
 
@@ -97,7 +110,7 @@ fn refusal_with(registry: &[u8], parameter: &[u8]) -> u8 {
 /// The cause of a loss: decision and record have to agree.
 fn cause(host: &Host, received: &Received) -> u8 {
     assert_eq!((received.refusal, received.records, received.decision.kind), (0, 1, 4));
-    assert_eq!((host.report[0], host.report[7]), (17, received.decision.cause));
+    assert_eq!((host.report[0], host.report[7]), (19, received.decision.cause));
     received.decision.cause
 }
 
@@ -116,7 +129,7 @@ fn m2_unsegmented() {
     let mut host = Host::open(0);
     let received = host.segment(&parameter);
     assert_eq!(host.data(&received, &parameter), [0xAA, 0xBB]);
-    assert_eq!(host.report[..RECORD], record(16, 3, [255, 0, 0, 1], 2, &[]));
+    assert_eq!(host.report[..RECORD], record(18, 3, [255, 0, 0, 1], 2));
     assert_eq!(host.open_places(), 0);
     assert!(host.store.iter().all(|octet| *octet == 0xEE));
 }
@@ -135,7 +148,7 @@ fn m3_joined() {
     let second = host.segment(&[0x83, 0x80, 0x00, 0x85, 0xBB]);
     assert_eq!(second.decision.kind, 3);
     assert_eq!(host.data(&second, &[]), [0xAA, 0xBB]);
-    assert_eq!(host.report[..RECORD], record(16, 3, [5, 1, 0, 2], 2, &[]));
+    assert_eq!(host.report[..RECORD], record(18, 3, [5, 1, 0, 2], 2));
     assert!(host.report[RECORD..].iter().chain(&host.store[2..]).all(|octet| *octet == 0xEE));
     assert_eq!(host.table, Host::open(0).table);
 }
@@ -146,7 +159,7 @@ fn m4_orphan() {
     let received = host.segment(&[0x83, 0x80, 0x00, 0x85, 0xBB]);
     assert_eq!(cause(&host, &received), 1);
     assert_eq!(received.decision.place, PLACES);
-    assert_eq!(host.report[..RECORD], record(17, 3, [5, 0, 1, 1], 1, &[]));
+    assert_eq!(host.report[..RECORD], record(19, 3, [5, 0, 1, 1], 1));
 }
 
 #[test]
@@ -174,7 +187,7 @@ fn clock_and_timer() {
     assert_eq!(host.clock(99).records, 0);
     assert_eq!(host.open_places(), 1);
     assert_eq!(host.clock(100).records, 1);
-    assert_eq!(host.report[..RECORD], record(17, 3, [5, 0, 6, 1], 1, &[]));
+    assert_eq!(host.report[..RECORD], record(19, 3, [5, 0, 6, 1], 1));
     let mut host = Host::open(4_294_967_290);
     host.segment(&[0x83, 0x80, 0x41, 0x85, 0xAA]);
     assert_eq!((host.clock(5).refusal, host.open_places()), (0, 1));
@@ -197,11 +210,10 @@ fn joined_2048_and_2049() {
         assert_eq!(
             host.report[..RECORD],
             record(
-                if expected == 0 { 16 } else { 17 },
+                if expected == 0 { 18 } else { 19 },
                 3,
                 [5, 0, expected, 10],
-                1_800 + last as u16,
-                &[]
+                1_800 + last as u16
             )
         );
         assert_eq!(host.open_places(), 0);
@@ -291,7 +303,7 @@ fn records_lines() {
         vec![35, 0, 8],
     ];
     let expected = "open 0 0 0 0 1 -\nsegment 0 0 0 0 2 saved 0\nsegment 0 1 2 0 3 delivered\n\
-        delivered 9 3 5 1 0 2 2 -\nsegment 0 0 0 0 4 saved 0\nrelease 0 0 0 0 5 -\nheld 9 3 6 0 0 1 1 -\n";
+        delivered 9 3 5 1 0 2 2 - -\nsegment 0 0 0 0 4 saved 0\nrelease 0 0 0 0 5 -\nheld 9 3 6 0 0 1 1 - -\n";
     assert_eq!(records(&trace), expected);
     let (zero, cut) = (vec![32; 1], vec![33]);
     let zero = [zero, vec![0; 8]].concat();
@@ -308,9 +320,9 @@ fn records_lines() {
         cut,
     ];
     let expected = "open 0 0 0 0 1 -\nsegment 0 0 0 0 2 saved 0\nsegment 0 0 0 0 3 saved 1\n\
-        open 12 0 0 0 4 refused 12\ndropped 9 4 5 0 0 1 1 0007\ndropped 9 3 5 1 0 1 1 -\n\
+        open 12 0 0 0 4 refused 12\ndropped 9 4 5 0 0 1 1 0007 -\ndropped 9 3 5 1 0 1 1 - -\n\
         segment 1 0 0 0 5 refused 1\nopen 0 0 0 0 6 -\nsegment 0 0 0 0 7 saved 0\n\
-        segment 0 1 0 0 8 delivered\ndelivered 9 3 - 2 0 1 0 -\nheld 9 3 5 1 0 1 1 -\nstop\n";
+        segment 0 1 0 0 8 delivered\ndelivered 9 3 - 2 0 1 0 - -\nheld 9 3 5 1 0 1 1 - -\nstop\n";
     assert_eq!(records(&trace), expected);
 }
 
@@ -346,13 +358,13 @@ fn restart_and_losses() {
     host.clock(7);
     let received = host.segment(&[0x83, 0x82, 0x42, 0x85, 0xBB, 0xCC]);
     assert_eq!((cause(&host, &received), received.decision.place), (3, 0));
-    assert_eq!(host.report[..RECORD], record(17, 3, [5, 1, 3, 1], 1, &[]));
+    assert_eq!(host.report[..RECORD], record(19, 3, [5, 1, 3, 1], 1));
     let place = host.table.places[0];
     assert_eq!((place.start, place.instruction, place.octets), (7, 2, 2));
     assert_eq!(host.store[..3], [0xBB, 0xCC, 0xEE]);
     let received = host.segment(&[0x83, 0x83, 0x4A, 0x85, 0xDD]);
     assert_eq!((cause(&host, &received), received.decision.place), (4, 0));
-    assert_eq!(host.report[..RECORD], record(17, 3, [5, 2, 4, 2], 3, &[]));
+    assert_eq!(host.report[..RECORD], record(19, 3, [5, 2, 4, 2], 3));
     assert_eq!(host.open_places(), 0);
 }
 
@@ -561,7 +573,7 @@ fn what_23_comes_after() {
     assert_eq!((refusal(&long(255)), refusal(&long(256))), (23, 4));
     let mut host = Host::open(0);
     assert_eq!(host.segment(&long(5)).refusal, 23);
-    host.report.truncate(31);
+    host.report.truncate(RECORD - 1);
     assert_eq!(host.segment(&long(5)).refusal, 3);
     host.store.truncate(STORE - 1);
     assert_eq!(host.segment(&long(5)).refusal, 2);
@@ -577,7 +589,7 @@ fn context_128() {
     let mut host = Host::open_with(&[1, 0, 128], 0);
     let received = host.segment(&parameter);
     assert_eq!((received.refusal, received.decision.kind, received.records), (0, 2, 1));
-    assert_eq!(host.report[..RECORD], record(16, 128, [255, 0, 0, 1], 0, &[]));
+    assert_eq!(host.report[..RECORD], record(18, 128, [255, 0, 0, 1], 0));
     assert_eq!(refusal_with(&[1, 0, 128], &[0x00, 0x80, 0x80, 0xC0]), 23);
     assert_eq!(refusal_with(&[1, 0, 127], &[0x7F, 0x80, 0x80, 0xC0]), 23);
     assert_eq!(Host::open_with(&[1, 0, 127], 0).segment(&[0xFF, 0x80, 0xC0]).refusal, 0);
@@ -642,4 +654,215 @@ fn padded_lines() {
     let expected = "open 0 0 0 0 1 -\nsegment 23 0 0 0 2 refused 23\n";
     assert_eq!(MODEL.printed(&trace, crate::Output::Records), expected);
     assert_eq!(MODEL.printed(&trace, crate::Output::Totals), "opening 1 0\n");
+}
+
+/// A segment of context 4, reference 5 and origin 00 07.
+fn towards(octet3: u8, destination: &[u8], information: &[u8]) -> Vec<u8> {
+    let header = [0x84, 0x80, octet3, 0x85, 2, 0, 7, destination.len() as u8];
+    [&header[..], destination, information].concat()
+}
+
+/// Destinations that are easily taken for one: by their number, and by their filled octets.
+const EXCHANGES: [&[u8]; 6] = [&[7], &[0, 7], &[7, 0], &[8], &[], &[0]];
+
+#[test]
+fn sizes_of_a3() {
+    assert_eq!((RECORD, SWEEP, OLD_RECORD, OLD_SWEEP), (53, 848, 32, 512));
+    assert_eq!((DELIVERED, LOST), (18, 19));
+}
+
+/// One origin and one reference: the sequences are begun, continued and delivered in turn, each
+/// with its own data.
+#[test]
+fn destinations_keep_sequences_apart() {
+    let mut host = Host::open(0);
+    for (number, destination) in EXCHANGES.iter().enumerate() {
+        let received = host.segment(&towards(0x42, destination, &[number as u8]));
+        assert_eq!((received.decision.kind, received.decision.place), (1, number));
+        let key = host.table.places[number].key;
+        assert_eq!(
+            (key.origin.counting(), key.destination.counting()),
+            (&[0, 7][..], *destination)
+        );
+    }
+    for (number, destination) in EXCHANGES.iter().enumerate().rev() {
+        let received = host.segment(&towards(0x01, destination, &[0x10 + number as u8]));
+        assert_eq!((received.decision.kind, received.decision.place), (1, number));
+    }
+    for (number, destination) in EXCHANGES.iter().enumerate() {
+        let received = host.segment(&towards(0x00, destination, &[0x20 + number as u8]));
+        let number = number as u8;
+        assert_eq!(host.data(&received, &[]), [number, 0x10 + number, 0x20 + number]);
+        let expected = addressed(18, 4, [5, 0, 0, 3], 3, [&[0, 7], destination]);
+        assert_eq!(host.report[..RECORD], expected);
+    }
+    assert_eq!(host.open_places(), 0);
+}
+
+/// Not open for this destination: the other sequence stays as it was and can be ended.
+#[test]
+fn another_destination_is_not_open() {
+    for other in &EXCHANGES[1..] {
+        let mut host = Host::open(0);
+        host.segment(&towards(0x41, &[7], &[0xAA]));
+        let place = host.table.places[0];
+        for (octet3, expected) in [(0x00, 1), (0x03, 1), (0x0A, 4), (0x4A, 4)] {
+            let received = host.segment(&towards(octet3, other, &[0xBB, 0xCC]));
+            assert_eq!((cause(&host, &received), received.decision.place), (expected, PLACES));
+            let record = addressed(19, 4, [5, 0, expected, 1], 2, [&[0, 7], other]);
+            assert_eq!(host.report[..RECORD], record);
+            assert_eq!((host.table.places[0], host.open_places()), (place, 1));
+        }
+        assert_eq!(host.segment(&towards(0x42, other, &[0xDD])).decision.place, 1);
+        let restarted = host.segment(&towards(0x41, other, &[]));
+        assert_eq!((cause(&host, &restarted), restarted.decision.place), (3, 1));
+        assert_eq!(host.table.places[0], place);
+        let last = host.segment(&towards(0x00, &[7], &[0xEE]));
+        assert_eq!(host.data(&last, &[]), [0xAA, 0xEE]);
+    }
+}
+
+/// An unsegmented parameter is recorded with its own addresses, and touches no sequence.
+#[test]
+fn unsegmented_with_a_destination() {
+    let twenty: Vec<u8> = (1..=20).collect();
+    for destination in [&[][..], &[7], &[0, 0], &twenty] {
+        let mut host = Host::open(0);
+        host.segment(&towards(0x41, destination, &[0xAA]));
+        let table = host.table;
+        let mut parameter = vec![0x84, 0x82, 0xC0, 1, 9, destination.len() as u8];
+        parameter.extend(destination);
+        parameter.push(0xBB);
+        let received = host.segment(&parameter);
+        assert_eq!((host.data(&received, &parameter), received.table), (vec![0xBB], table));
+        let expected = addressed(18, 4, [255, 2, 0, 1], 1, [&[9], destination]);
+        assert_eq!(host.report[..RECORD], expected);
+        assert!(host.report[RECORD..].iter().all(|octet| *octet == 0xEE));
+    }
+}
+
+#[test]
+fn no_addresses_in_1998() {
+    let mut host = Host::open(0);
+    host.segment(&[0x83, 0x80, 0x41, 0x85, 1, 7]);
+    let key = Key { association: 9, context: 3, reference: 5, ..Key::default() };
+    assert_eq!(host.table.places[0].key, key);
+    host.segment(&[0x83, 0x80, 0x00, 0x85, 1, 8]);
+    assert_eq!(host.report[..RECORD], record(18, 3, [5, 0, 0, 2], 4));
+}
+
+/// The clock and a release record each destination, in place order.
+#[test]
+fn swept_destinations() {
+    for (release, why) in [(false, 6), (true, 7)] {
+        let mut host = Host::open(0);
+        for destination in EXCHANGES {
+            host.segment(&towards(0x41, destination, &[0xAA]));
+        }
+        let swept = if release { host.release(9) } else { host.clock(100) };
+        assert_eq!((usize::from(swept.records), host.open_places()), (EXCHANGES.len(), 0));
+        for (record, destination) in host.report.chunks(RECORD).zip(EXCHANGES) {
+            assert_eq!(record, addressed(19, 4, [5, 0, why, 1], 1, [&[0, 7], destination]));
+        }
+        assert!(host.report[EXCHANGES.len() * RECORD..].iter().all(|octet| *octet == 0xEE));
+    }
+}
+
+#[test]
+fn least_reports() {
+    for (length, refusal) in [(53, 0), (52, 3), (32, 3), (0, 3)] {
+        let mut host = Host::open(0);
+        host.report.truncate(length);
+        assert_eq!(host.segment(&ALONE).refusal, refusal, "{length}");
+        assert_eq!(host.report.iter().all(|octet| *octet == 0xEE), refusal != 0 || length == 0);
+    }
+    for (length, refusal) in [(848, 0), (847, 3), (512, 3), (53, 3), (0, 3)] {
+        let mut host = Host::open(0);
+        host.segment(&FIRST);
+        host.report.truncate(length);
+        assert_eq!(host.clock(1).refusal, refusal, "{length}");
+        assert_eq!(host.release(9).refusal, refusal, "{length}");
+    }
+}
+
+/// A place's destination is judged as its origin is.
+#[test]
+fn sound_destinations() {
+    let mut host = Host::open(0);
+    host.segment(&towards(0x41, &[7], &[]));
+    host.segment(&[0x83, 0x80, 0x41, 0x85]);
+    let good = host.table;
+    let mut refusal = |index: usize, length: u8, octets: &[(usize, u8)]| {
+        host.table = good;
+        let destination = &mut host.table.places[index].key.destination;
+        *destination = Address { length, ..Address::default() };
+        octets.iter().for_each(|(at, octet)| destination.octets[*at] = *octet);
+        let changed = host.table;
+        let number = host.clock(1).refusal;
+        assert!(number == 0 || host.table == changed);
+        number
+    };
+    for length in 0..=255 {
+        assert_eq!(refusal(0, length, &[]), if length <= 20 { 0 } else { 1 }, "{length}");
+        assert_eq!(refusal(1, length, &[]), u8::from(length > 0), "{length}");
+        assert_eq!(refusal(2, length, &[]), u8::from(length > 0), "{length}");
+    }
+    for at in 0..20 {
+        for length in 0..=20 {
+            let expected = u8::from(at >= usize::from(length));
+            assert_eq!(refusal(0, length, &[(at, 1)]), expected, "{at} of {length}");
+        }
+        assert_eq!((refusal(1, 0, &[(at, 1)]), refusal(2, 0, &[(at, 128)])), (1, 1), "{at}");
+    }
+}
+
+/// Two open places are apart by the destination alone, and not where it is the same.
+#[test]
+fn sound_neighbours() {
+    for (i, one) in EXCHANGES.iter().enumerate() {
+        for (j, other) in EXCHANGES.iter().enumerate() {
+            let mut host = Host::open(0);
+            host.segment(&towards(0x41, one, &[]));
+            host.table.places[9] = host.table.places[0];
+            host.table.places[9].key.destination = Address::of(other);
+            assert_eq!(host.clock(1).refusal, u8::from(i == j), "{one:?} and {other:?}");
+        }
+    }
+}
+
+/// Records are none of a trace's, neither the old nor the new, whole or cut.
+#[test]
+fn records_stop_a_trace() {
+    for (kind, length) in [(16, 32), (17, 32), (18, 53), (19, 53)] {
+        for length in [1, length] {
+            let mut record = vec![0; length];
+            record[0] = kind;
+            let trace = [&[1, 0, 3], &OPEN[..], &record, &[35, 0, 9]].concat();
+            assert_eq!(MODEL.replay(&trace), "open 0 0 0 0\nstop\n", "{kind}");
+            let totals = MODEL.printed(&trace, crate::Output::Totals);
+            assert_eq!(totals, "opening 1 0\nstop\n", "{kind}");
+        }
+    }
+}
+
+/// The destination is the last field, in the form of the origin.
+#[test]
+fn destinations_in_lines() {
+    let trace = [
+        vec![2, 0, 4],
+        OPEN.to_vec(),
+        event(&towards(0x41, &[1, 2], &[0xAA])),
+        event(&towards(0x00, &[1, 2], &[0xBB, 0xCC])),
+        event(&[0x84, 0x80, 0x00, 0x85, 1, 7, 0, 0xDD]),
+        event(&towards(0x41, &[0xAB, 0], &[])),
+        event(&towards(0x41, &[0xAB], &[])),
+        OPEN.to_vec(),
+        event(&[0x84, 0x80, 0x41, 0x85, 0, 3, 0, 0, 0x0F]),
+    ];
+    let expected = "open 0 0 0 0 1 -\nsegment 0 0 0 0 2 saved 0\nsegment 0 1 3 0 3 delivered\n\
+        delivered 9 4 5 0 0 2 3 0007 0102\nsegment 0 1 0 1 4 lost\nlost 9 4 5 0 1 1 1 07 -\n\
+        segment 0 0 0 0 5 saved 0\nsegment 0 0 0 0 6 saved 1\nopen 0 0 0 0 7 -\n\
+        dropped 9 4 5 0 0 1 0 0007 AB00\ndropped 9 4 5 0 0 1 0 0007 AB\n\
+        segment 0 0 0 0 8 saved 0\nheld 9 4 5 0 0 1 0 - 00000F\n";
+    assert_eq!(records(&trace), expected);
 }

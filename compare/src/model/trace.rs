@@ -4,7 +4,7 @@ use std::fmt::Write;
 
 use crate::cursor::Cursor;
 use crate::{Decision, Fault, Machine, Received, Summary, Table};
-use crate::{PARAMETER, RECORD, STORE, SWEEP};
+use crate::{DELIVERED, LOST, OLD_RECORD, PARAMETER, RECORD, STORE, SWEEP};
 
 /// Which program's text is printed.
 #[derive(Clone, Copy, Debug, PartialEq, Eq)]
@@ -101,6 +101,20 @@ fn segment<'a>(cursor: &mut Cursor<'a>) -> Option<Item<'a>> {
     Some(Item::Segment { association, parameter })
 }
 
+/// For `Fault::RecordsPassed`: passes over whole records of deliveries and losses.
+fn pass_records(cursor: &mut Cursor) {
+    let length = |kind: u8| match kind {
+        16 | 17 => Some(OLD_RECORD),
+        DELIVERED | LOST => Some(RECORD),
+        _ => None,
+    };
+    while let Some(length) = cursor.rest().first().and_then(|kind| length(*kind)) {
+        if cursor.take(length).is_none() {
+            return;
+        }
+    }
+}
+
 impl<const B: bool> Replay<B> {
     pub fn new(model: Machine<B>, output: Output) -> Self {
         Replay {
@@ -124,6 +138,9 @@ impl<const B: bool> Replay<B> {
         let mut cursor = Cursor::new(trace);
         let mut left = trace.len();
         while !self.stopped {
+            if self.model.broken(Fault::RecordsPassed) {
+                pass_records(&mut cursor);
+            }
             match item(&mut cursor).and_then(|(octets, item)| self.step(octets, item, text)) {
                 Ok(()) => left = cursor.rest().len(),
                 Err(Stop::Cut) => break,
@@ -240,6 +257,7 @@ impl<const B: bool> Replay<B> {
         let most = if self.model.broken(Fault::FirstRecordOnly) { 1 } else { records };
         let made = self.report.chunks_exact(RECORD).take(records.min(most));
         let octets = |record: &[u8]| u32::from(u16::from_be_bytes([record[9], record[10]]));
-        [16, 17].map(|kind| made.clone().filter(|record| record[0] == kind).map(octets).sum())
+        [DELIVERED, LOST]
+            .map(|kind| made.clone().filter(|record| record[0] == kind).map(octets).sum())
     }
 }

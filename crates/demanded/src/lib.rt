@@ -85,7 +85,7 @@ pub fn sending(
 pub fn c_opening(m: &mut [u64; rules::SUMMARY], registry: &[u8], timer: u32, clock: u32) -> Opened
     ensures { λ r. ⌜ DemandedOpening (now (registry .entry)) timer clock r (now (m .exit)) ⌝ }
 {
-    host::egrynnol_2_opening(m, registry, timer, clock)
+    host::egrynnol_3_opening(m, registry, timer, clock)
 }
 
 // A segment, and the delivery asked for with its answer.
@@ -99,16 +99,16 @@ pub fn c_segment(
 ) -> Handed
     ensures { λ r. ⌜ DemandedC t (now (m .entry)) (now (store .entry)) (now (report .entry)) association (now (s .entry)) r (now (m .exit)) (now (store .exit)) (now (report .exit)) ⌝ }
 {
-    let received = host::egrynnol_2_segment(t, m, store, report, association, s);
+    let received = host::egrynnol_3_segment(t, m, store, report, association, s);
     let decision = received.decision;
-    let part = host::egrynnol_2_delivery(decision, s, store);
+    let part = host::egrynnol_3_delivery(decision, s, store);
     Handed { received, part }
 }
 
 pub fn c_clock(t: Table, m: &mut [u64; rules::SUMMARY], report: &mut [u8], time: u32) -> Swept
     ensures { λ r. ⌜ DemandedClock t (now (m .entry)) (now (report .entry)) time r (now (m .exit)) (now (report .exit)) ⌝ }
 {
-    host::egrynnol_2_clock(t, m, report, time)
+    host::egrynnol_3_clock(t, m, report, time)
 }
 
 pub fn c_release(
@@ -119,7 +119,7 @@ pub fn c_release(
 ) -> Swept
     ensures { λ r. ⌜ DemandedRelease t (now (m .entry)) (now (report .entry)) association r (now (m .exit)) (now (report .exit)) ⌝ }
 {
-    host::egrynnol_2_release(t, m, report, association)
+    host::egrynnol_3_release(t, m, report, association)
 }
 
 pub fn c_sending(
@@ -132,7 +132,7 @@ pub fn c_sending(
 ) -> Sent
     ensures { λ r. ⌜ DemandedSending t q (now (origin .entry)) (now (destination .entry)) (now (whole .entry)) (now (area .entry)) r (now (area .exit)) ⌝ }
 {
-    host::egrynnol_2_sending(t, q, origin, destination, whole, area)
+    host::egrynnol_3_sending(t, q, origin, destination, whole, area)
 }
 
 // THEY COMPOSE: what one leaves is what the next asks for, and nothing is asked of the history.

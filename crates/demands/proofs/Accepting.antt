@@ -18,8 +18,8 @@ use Rattle.rules.specs.Sweep.{reportLeast, clockChecks, releaseChecks}
 use Rattle.rules.specs.declared.Entry.{Entry}
 use Rattle.rules.specs.declared.Table.{Table}
 use Rattle.rules.proofs.Refusals.{accepted-both}
-use Rattle.rules.proofs.Reading.{origin-short}
-use Rattle.rules.proofs.Records.{filled-at}
+use Rattle.rules.proofs.Reading.{origin-short, destination-short}
+use Rattle.rules.proofs.Records.{filled-key}
 use Rattle.demands.proofs.Settling.{KeyFits}
 
 abbrev seven : List ℕ → ℕ → Check
@@ -57,7 +57,7 @@ module _ (registry : List Entry) (s : List ℕ) where
     unfolding fieldsOf
     key-fits association h =
         record {
-          origin = filled-at s (fieldsOf registry s .origin) (origin-short registry s e);
+          addresses = filled-key association s (fieldsOf registry s) (origin-short registry s e) (destination-short registry s e);
           association = h;
           context = range (has1a s);
         }

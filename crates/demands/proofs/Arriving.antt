@@ -14,7 +14,7 @@ use Rattle.rules.specs.General.{if_then_else_}
 use Rattle.rules.specs.Numbers.{storeLeast, placeStart, addressMost}
 use Rattle.rules.specs.Refusals.{Check, accepted}
 use Rattle.rules.specs.Layout.{isUnsegmented, fieldsOf, readingChecks}
-use Rattle.rules.specs.Records.{recordLength, addressOf, Filled, recordOctets, recordsOctets}
+use Rattle.rules.specs.Records.{recordLength, addressOf, FilledKey, recordOctets, recordsOctets}
 use Rattle.rules.specs.Places.{noPlace, holds, placeOf, lowestFree, isAt, placeAt}
 use Rattle.rules.specs.Soundness.{sound}
 use Rattle.rules.specs.Receiving.{keyOf, lineOf, lineAt, isStart, effectOf, saveAt, receptionOf, receivedAt, Reception, lentChecks, segmentChecks}
@@ -56,22 +56,23 @@ line-later before saved g n nine new follows fits =
 
 -- What it does
 
-abbrev pub keyFor : ℕ → Heading → List ℕ → Key
-keyFor association g o =
-    record { association = association; context = g .context; origin = addressOf o; reference = g .reference }
+abbrev pub keyFor : ℕ → Heading → List ℕ → List ℕ → Key
+keyFor association g o d =
+    record { association = association; context = g .context; origin = addressOf o; destination = addressOf d; reference = g .reference }
 
 module _ (t : Table) (store report : List ℕ) (association : ℕ) (s : List ℕ) (g : Heading) (o d info : List ℕ) (read : ReadsBack (t .registry) s g o d info)
     (good : sound t ≡ true) (long : storeLeast ≤ length store) (ample : recordLength ≤ length report) where
   abbrev pub fields : Fields
   fields =
-      record { heading = g; origin = fieldsOf (t .registry) s .origin; information = fieldsOf (t .registry) s .information }
+      record { heading = g; origin = fieldsOf (t .registry) s .origin; destination = fieldsOf (t .registry) s .destination; information = fieldsOf (t .registry) s .information }
 
-  key-is : keyOf association s (fieldsOf (t .registry) s) ≡ keyFor association g o
+  key-is : keyOf association s (fieldsOf (t .registry) s) ≡ keyFor association g o d
   key-is =
       λ i. record {
         association = association;
         context = read .heading i .context;
         origin = read .origin i;
+        destination = read .destination i;
         reference = read .heading i .reference;
       }
 
@@ -82,13 +83,13 @@ module _ (t : Table) (store report : List ℕ) (association : ℕ) (s : List ℕ
   did k h l =
       receptionOf t report
       (effectOf (at k h l) t store k
-      (record { heading = h; origin = fieldsOf (t .registry) s .origin; information = fieldsOf (t .registry) s .information })
+      (record { heading = h; origin = fieldsOf (t .registry) s .origin; destination = fieldsOf (t .registry) s .destination; information = fieldsOf (t .registry) s .information })
       l (placeOf k (t .places)) (placeAt (t .places) (placeOf k (t .places))) (lowestFree (t .places)))
 
-  received-is : receivedAt t store report association s ≡ did (keyFor association g o) g info
+  received-is : receivedAt t store report association s ≡ did (keyFor association g o d) g info
   received-is = λ i. did (key-is i) (read .heading i) (read .information i)
 
-  accepts : (isStart (at (keyFor association g o) g info) && not (isAt (lowestFree (t .places)))) ≡ false
+  accepts : (isStart (at (keyFor association g o d) g info) && not (isAt (lowestFree (t .places)))) ≡ false
       → accepted (segmentChecks t store report association s) ≡ true
   unfolding segmentChecks
   accepts e =
@@ -96,7 +97,7 @@ module _ (t : Table) (store report : List ℕ) (association : ℕ) (s : List ℕ
       let one : accepted front ≡ true = rw (good, le-ltb (length store) storeLeast long, le-ltb (length report) recordLength ample) in
       let two : accepted (front ++ readingChecks (t .registry) s) ≡ true = accepted-append front (readingChecks (t .registry) s) ∙ rw (one, read .accepted) in
       let same : at (keyOf association s (fieldsOf (t .registry) s)) (fieldsOf (t .registry) s .heading) (drop (fieldsOf (t .registry) s .information) s)
-      ≡ at (keyFor association g o) g info = λ i. at (key-is i) (read .heading i) (read .information i) in
+      ≡ at (keyFor association g o d) g info = λ i. at (key-is i) (read .heading i) (read .information i) in
       accepted-append (front ++ readingChecks (t .registry) s) _ ∙ rw (two, same, e)
 
   -- neither the summary's soundness nor its room refuses it
@@ -109,15 +110,15 @@ module _ (t : Table) (store report : List ℕ) (association : ℕ) (s : List ℕ
         accepted-append (summaryChecks m (t .places)) (segmentChecks t store report association s ++ last)
         ∙ rw (sums, accepted-append (segmentChecks t store report association s) last, e) counts
 
-    pub arrives : (place free : Found) → placeOf (keyFor association g o) (t .places) ≡ place → lowestFree (t .places) ≡ free → (l : Line)
+    pub arrives : (place free : Found) → placeOf (keyFor association g o d) (t .places) ≡ place → lowestFree (t .places) ≡ free → (l : Line)
         → lineOf (isAt place) (placeAt (t .places) place .remaining .0) (placeAt (t .places) place .octets) g (length info) ≡ l → (isStart l && not (isAt free)) ≡ false
         → segmentWith t m store report association s .call
-        ≡ receptionOf t report (effectOf l t store (keyFor association g o) fields info place (placeAt (t .places) place) free)
+        ≡ receptionOf t report (effectOf l t store (keyFor association g o d) fields info place (placeAt (t .places) place) free)
     arrives place free there open-is l line starts =
         let by : Found → Line = λ f. lineOf (isAt f) (placeAt (t .places) f .remaining .0) (placeAt (t .places) f .octets) g (length info) in
-        let same : at (keyFor association g o) g info ≡ l = ap by there ∙ line in
+        let same : at (keyFor association g o d) g info ≡ l = ap by there ∙ line in
         segment-is t m store report association s (accepts-with (accepts (rw (same, open-is) starts))) ∙ received-is
-        ∙ (λ i. receptionOf t report (effectOf (same i) t store (keyFor association g o) fields info (there i) (placeAt (t .places) (there i)) (open-is i)))
+        ∙ (λ i. receptionOf t report (effectOf (same i) t store (keyFor association g o d) fields info (there i) (placeAt (t .places) (there i)) (open-is i)))
 
 -- Its own place after it, and what is saved there
 
@@ -156,10 +157,10 @@ mine-kept k ps m q store at saved info inside before yours e held fits =
 
 -- its record is read in the report area, and what it delivers in the store
 
-pub one-reported : (r : Record) (report : List ℕ) → Filled (r .key .origin) → recordLength ≤ length report
+pub one-reported : (r : Record) (report : List ℕ) → FilledKey (r .key) → recordLength ≤ length report
     → take recordLength (splice report 0 (recordsOctets (r ∷ []))) ≡ recordOctets r
-one-reported r report origin ample =
-    let l = record-length r origin in
+one-reported r report filled ample =
+    let l = record-length r filled in
     let same : recordsOctets (r ∷ []) ≡ recordOctets r = append-nil (recordOctets r) in
     rw same (rw l at (splice-back report 0 (recordOctets r) (omega arith)))
 

@@ -18,9 +18,11 @@ use Rattle.demands.specs.Follows.{Orderly, Billed, Unforgetting, OneForm
 use Rattle.demands.specs.Demanded.{Demanded, Begun}
 use Rattle.demands.specs.Totals.{Totals, Balance}
 use Rattle.demands.specs.Replayed.{Replayed}
+use Rattle.demands.specs.Exchanges.{Exchanges}
 use Rattle.demands.proofs.Refused as Refused
 use Rattle.demands.proofs.Sound as Sound
 use Rattle.demands.proofs.Return as Return
+use Rattle.demands.proofs.Exchanges as Exchanges
 use Rattle.demands.proofs.Kept as Kept
 use Rattle.demands.proofs.Timing as Timing
 use Rattle.demands.proofs.Releasing as Releasing
@@ -42,6 +44,10 @@ soundness = Sound.soundness
 -- demand 2: data that is cut comes back unchanged
 pub demand-2 : Demand2 ours
 demand-2 = Return.demand-2
+
+-- two exchanges behind one gateway: data that is cut for two destinations comes back, however the segments are interleaved
+pub exchanges : Exchanges ours
+exchanges = Exchanges.exchanges
 
 -- demand 3: every record is the rules' and covers what it says, every delivery is what its record covers, and table and store are what the history tells
 pub demand-3 : Demand3 ours

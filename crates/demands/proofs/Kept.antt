@@ -14,6 +14,7 @@ use Rattle.rules.specs.Registry.{entriesOf}
 use Rattle.rules.specs.Layout.{isUnsegmented, fieldsOf, readingChecks}
 use Rattle.rules.specs.Places.{sameKey, isOpen, noPlace, holds, placeOf, placeAt, lowestFree}
 use Rattle.rules.specs.Soundness.{placeSound, openSound, sound}
+use Rattle.rules.specs.Records.{recordLength}
 use Rattle.rules.specs.Receiving.{keyOf, informationOf, lineOf, lineAt, Effect, effectOf, receptionOf}
 use Rattle.rules.specs.Delivery.{delivery}
 use Rattle.rules.specs.Sweep.{reportLeast, sweep, isDue, isOf, lossesBy}
@@ -29,6 +30,7 @@ use Rattle.rules.specs.declared.Record.{Record}
 use Rattle.rules.specs.declared.Found.{Found}
 use Rattle.rules.specs.declared.Line.{Line}
 use Rattle.rules.specs.declared.Opened.{Opened}
+use Rattle.rules.proofs.Soundness.{open-parts}
 use Rattle.rules.proofs.Keys.{same-equal}
 use Rattle.rules.proofs.Records.{records-back}
 use Rattle.rules.proofs.Held.{every-at, open-is, places-sound}
@@ -52,8 +54,7 @@ use Rattle.demands.proofs.Running.{meets}
 
 -- no open place of a sound table has the reference 255
 reference-low : (registry : List Entry) (timer clock : ℕ) (p : Place) → openSound registry timer clock p ≡ true → p .key .reference .0 ≤ 127
-unfolding openSound
-reference-low registry timer clock p e = let all = simp and-eq-true-iff at e in leb-true (p .key .reference .0) 127 (all .0 .0 .0 .0 .0 .0 .0 .0 .1)
+reference-low registry timer clock p e = open-parts registry timer clock p e .reference
 
 not-held : (t : Table) (k : Key) → sound t ≡ true → k .reference .0 ≡ 255 → (j : ℕ) → j < length (t .places) → holds k (getD (t .places) j noPlace) ≡ false
 not-held t k s r j l = go (holds k (getD (t .places) j noPlace)) refl
@@ -144,7 +145,7 @@ module _ (st : State) (h : Told) (inv : Inv st h) where
     abbrev Good : List Entry → ℕ → Effect → Type 0
     Good registry time e = (accepted (readingChecks registry s) ≡ true) × Arrived u (keyBy registry) (segmentBy registry time) s (lineBy registry) e
 
-    arrive-done : (m′ : List ℕ) (e : Effect) → 32 ≤ length (x .report) → Good (h .registry) (h .time) e → Accounted h (seenWith st (Arrives x) (afterSegment (counting m′ (receptionOf t (x .report) e))))
+    arrive-done : (m′ : List ℕ) (e : Effect) → recordLength ≤ length (x .report) → Good (h .registry) (h .time) e → Accounted h (seenWith st (Arrives x) (afterSegment (counting m′ (receptionOf t (x .report) e))))
     unfolding after covers EachIn deedsOf held
     arrive-done m′ e w g =
         let d = g .1 in
@@ -167,7 +168,7 @@ module _ (st : State) (h : Told) (inv : Inv st h) where
         let place : Found = placeOf k (t .places) in
         effectOf (lineAt t k (f .heading) (length (informationOf s f))) t store k f (informationOf s f) place (placeAt (t .places) place) (lowestFree (t .places))
 
-    pub arrival-good : x .association < 2 ^ 16 → accepted (checksOf st (Arrives x)) ≡ true → (32 ≤ length (x .report)) × Good (h .registry) (h .time) effect
+    pub arrival-good : x .association < 2 ^ 16 → accepted (checksOf st (Arrives x)) ≡ true → (recordLength ≤ length (x .report)) × Good (h .registry) (h .time) effect
     unfolding held
     arrival-good small e =
         let c = arrived-good t store (x .report) (x .association) s (segment-accepted t (st .summary) store (x .report) (x .association) s e .0 .own) in

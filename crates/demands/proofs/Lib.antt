@@ -8,6 +8,7 @@ pub mod Spared
 pub mod Sparing
 pub mod Arriving
 pub mod Return
+pub mod Exchanges
 pub mod Holding
 pub mod Placing
 pub mod ByLine

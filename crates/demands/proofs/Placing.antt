@@ -14,12 +14,13 @@ use Rattle.octets.proofs.Splice.{splice-below, splice-above, splice-back}
 use Rattle.rules.specs.General.{if_then_else_}
 use Rattle.rules.specs.Numbers.{placeStart}
 use Rattle.rules.specs.Places.{sameKey, noPlace, isOpen, holds}
-use Rattle.rules.specs.Soundness.{placeSound, openSound, freeSound, sound}
+use Rattle.rules.specs.Soundness.{placeSound, sound}
 use Rattle.rules.specs.Receiving.{saveAt}
 use Rattle.rules.specs.declared.Entry.{Entry}
 use Rattle.rules.specs.declared.Key.{Key}
 use Rattle.rules.specs.declared.Place.{Place}
 use Rattle.rules.specs.declared.Table.{Table}
+use Rattle.rules.proofs.Soundness.{open-parts, free-holds}
 use Rattle.rules.proofs.Keys.{same-equal}
 use Rattle.rules.proofs.Held.{every-at, open-is, places-sound}
 use Rattle.demands.specs.History.{Segment, filed}
@@ -97,12 +98,11 @@ save-read store i at octets h =
 
 module _ (t : Table) (s : sound t ≡ true) where
   place-short : (registry : List Entry) (timer clock : ℕ) (p : Place) → placeSound registry timer clock p ≡ true → p .octets ≤ 2048
-  unfolding openSound freeSound
   place-short registry timer clock p e = go (isOpen p) refl
     where
       go : (b : Bool) → isOpen p ≡ b → p .octets ≤ 2048
-      go true o = leb-true (p .octets) 2048 ((simp and-eq-true-iff at (open-is registry timer clock p e o)) .0 .0 .1)
-      go false o = let all = simp and-eq-true-iff at (simp o at e) in let z = eqb-true (p .octets) 0 (all .1 .0 .0 .0 .0 .0 .1) in omega arith
+      go true o = open-parts registry timer clock p (open-is registry timer clock p e o) .octets
+      go false o = let z = free-holds registry timer clock p e o .0 in omega arith
 
   pub octets-short : (j : ℕ) → j < length (t .places) → getD (t .places) j noPlace .octets ≤ 2048
   octets-short j l = place-short (t .registry) (t .timer) (t .clock) (getD (t .places) j noPlace) (every-at (placeSound (t .registry) (t .timer) (t .clock)) (t .places) noPlace j (places-sound t s) l)

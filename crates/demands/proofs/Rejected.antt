@@ -1,17 +1,18 @@
 -- Every wrong machine breaks a demand, at a small trace: registry 01 00 03, 02 00 04; T 100; clock 0; association 9. A name without a number refutes the demand that
 -- the machine was made to break; one with a number refutes that demand too.
-use Prim.Native.Nat.{ℕ, zero, suc, _≤_, _<_}
+use Prim.Native.Nat.{ℕ, zero, suc, _≤_, _<_, _^_}
 use native.Mathlib.Omega.{arith}
 use mathlib.Core.Path.{_≡_, refl, sym, ap}
 use mathlib.Core.Bool.{Bool, true, false, true≢false}
-use mathlib.Core.List.{List, [], _∷_}
+use mathlib.Core.List.{List, [], _∷_, _++_}
 use lib.ListN.{length, getD, replicate, length-replicate}
 use Rattle.octets.specs.Splice.{splice}
 use Rattle.rules.specs.General.{if_then_else_, every, those}
 use Rattle.rules.specs.Numbers.{elapsed, storeLeast, placeCount, addressMost}
 use Rattle.rules.specs.Refusals.{Check, accepted}
 use Rattle.rules.specs.Layout.{fieldsOf, readingChecks, parameterOctets}
-use Rattle.rules.specs.Records.{addressOf, recordOctets, recordFrom, recordLength}
+use Rattle.rules.specs.Registry.{kindOf}
+use Rattle.rules.specs.Records.{delivered, lost, addressOf, recordOctets, recordFrom, recordLength}
 use Rattle.rules.specs.Places.{sameAddress, sameKey, isFree, placeOf, lowestFree, freePlace}
 use Rattle.rules.specs.Soundness.{addressSound, openSound, freeSound, sound}
 use Rattle.rules.specs.Receiving.{lineOf, effectOf, segmentChecks}
@@ -24,6 +25,7 @@ use Rattle.rules.specs.Examples.{fresh}
 use Rattle.rules.specs.Calls.{State, stateOf, Opening, Call, Opens, Arrives, Ticks, Releases, Sends, toArrive, toTick, toRelease, Decided, Undecided, As, Answer, refusing, Outcome, step}
 use Rattle.rules.proofs.Refusals.{judged-by}
 use Rattle.rules.specs.declared.Entry.{Entry}
+use Rattle.rules.specs.declared.Address.{Address}
 use Rattle.rules.specs.declared.Key.{Key}
 use Rattle.rules.specs.declared.Part.the-variants.{OfStore}
 use Rattle.rules.specs.declared.Decision.the-variants.{Refused, Saved, Delivered, Lost}
@@ -31,18 +33,20 @@ use Rattle.demands.specs.Machine.{Machine, checksOf, All, InRange, Typed
 use Rattle.demands.specs.Seen.{Seen, seenBy, runOf}
 use Rattle.demands.specs.History.{Told, deedsOf, after, covers, EachIn, silence, Along, Meets}
 use Rattle.demands.specs.Demand1.{Demand1}
-use Rattle.demands.specs.Demand2.{Demand2, Shipment, Sender, sendingOf, Sendable, countIn, Ready, RoundTrip, stop, mine}
+use Rattle.demands.specs.Demand2.{Demand2, Shipment, Sender, sendingOf, Sendable, countIn, keyIn, Ready, RoundTrip, stop, mine}
+use Rattle.demands.specs.Demanded.{CanBeSent}
+use Rattle.demands.specs.Exchanges.{OtherDestination, TwoFree, stop as neither, ofOne, ofTwo, Exchanges}
 use Rattle.demands.specs.Demand3.{Demand3, Ending, View, held}
 use Rattle.demands.specs.Timer.{Timer}
 use Rattle.demands.specs.Release.{Release}
 use Rattle.demands.specs.Totals.{totalsOf, Totals}
-use Rattle.demands.specs.Exactly.{Exactly, Bits, OfPlace, OfEntry, OfState, OfCall}
+use Rattle.demands.specs.Exactly.{Exactly, Bits, OfAddress, OfPlace, OfEntry, OfState, OfCall}
 use Rattle.demands.specs.Wrong
 use Rattle.demands.specs.Wrong.{joining, unchanged, checking, allMade, sweeping, emptying, asRuled, asSummed}
 use Rattle.demands.specs.Wrong.{refuses, losesAll, forgets, savesFirst, invents, inventsOctets, neverRefuses, takesPadded, swallows, handsOutEarly, handsOutMore}
 use Rattle.demands.specs.Wrong.{losesNothing, releasesNothing, recordsSending, clearsRegistry, movesTimer, movesClock}
 use Rattle.demands.specs.Wrong.{leavesOut, setsSpare, cutsPast, cutsByClock, writesNonsense}
-use Rattle.demands.specs.Wrong.{comparesNumbers, comparesFilled, takesHighest, losesEmpty, joinsOverGap, exchangesCauses, callsItDelivered}
+use Rattle.demands.specs.Wrong.{comparesNumbers, comparesFilled, comparesNumbersTo, comparesFilledTo, passesOver, recordsOriginTwice, takesHighest, losesEmpty, joinsOverGap, exchangesCauses, callsItDelivered}
 use Rattle.demands.specs.Wrong.{dropsRestart, countsSaved, tellsLast, startsAnew, subtractsPlainly}
 use Rattle.demands.specs.Wrong.{countsRefused, billsRestart, forgetsReleases, keepsRows, givesSecond, takesParameter, missesStrays}
 
@@ -121,7 +125,7 @@ all = replicate reportLeast 0
 
 -- keys of context 3 at association 9
 abbrev keyWith : ℕ → Key
-keyWith reference = record { association = 9; context = record { 0 = 3 }; origin = addressOf []; reference = record { 0 = reference } }
+keyWith reference = record { association = 9; context = record { 0 = 3 }; origin = addressOf []; destination = addressOf []; reference = record { 0 = reference } }
 
 -- an unsegmented parameter with one octet
 abbrev alone : List ℕ
@@ -160,18 +164,22 @@ empty2 = 0x83 ∷ 0x80 ∷ 0x01 ∷ 0x85 ∷ []
 abbrev empty3 : List ℕ
 empty3 = 0x83 ∷ 0x80 ∷ 0x00 ∷ 0x85 ∷ []
 
--- M11: first segments of one reference from the addresses 00 07, 07 00 and 07
-abbrev from0007 : List ℕ
-from0007 = 0x84 ∷ 0x80 ∷ 0x41 ∷ 0x85 ∷ 0x02 ∷ 0x00 ∷ 0x07 ∷ 0x00 ∷ 0xAA ∷ []
+-- as in M11: first segments of one reference, from one address to another, and their keys
+abbrev between : List ℕ → List ℕ → List ℕ
+between o d = (0x84 ∷ 0x80 ∷ 0x41 ∷ 0x85 ∷ []) ++ (length o ∷ o) ++ (length d ∷ d) ++ (0xAA ∷ [])
 
-abbrev from0700 : List ℕ
-from0700 = 0x84 ∷ 0x80 ∷ 0x41 ∷ 0x85 ∷ 0x02 ∷ 0x07 ∷ 0x00 ∷ 0x00 ∷ 0xAA ∷ []
+abbrev keyBetween : List ℕ → List ℕ → Key
+keyBetween o d = record { association = 9; context = record { 0 = 4 }; origin = addressOf o; destination = addressOf d; reference = record { 0 = 5 } }
 
-abbrev from07 : List ℕ
-from07 = 0x84 ∷ 0x80 ∷ 0x41 ∷ 0x85 ∷ 0x01 ∷ 0x07 ∷ 0x00 ∷ 0xBB ∷ []
+-- the addresses 00 07, 07 00 and 07
+abbrev a0007 : List ℕ
+a0007 = 0 ∷ 7 ∷ []
 
-abbrev key07 : Key
-key07 = record { association = 9; context = record { 0 = 4 }; origin = addressOf (7 ∷ []); reference = record { 0 = 5 } }
+abbrev a0700 : List ℕ
+a0700 = 7 ∷ 0 ∷ []
+
+abbrev a07 : List ℕ
+a07 = 7 ∷ []
 
 -- what a demand says of calls after an opening at a time, after one at 0, and of segments that arrive after that one
 abbrev told : Machine → ℕ → Told
@@ -268,28 +276,49 @@ three-sendable (suc zero) lt = record { kind = refl; good = refl }
 three-sendable (suc (suc zero)) lt = record { kind = refl; good = refl }
 three-sendable (suc (suc (suc k))) lt = let z : ⊥ = omega arith in absurd z
 
+-- four octets in two segments to the destinations 07 and 08
+abbrev toOne : Shipment
+toOne = cut 4 2 9 (7 ∷ []) (1 ∷ 2 ∷ 3 ∷ 4 ∷ [])
+
+abbrev toTwo : Shipment
+toTwo = cut 4 2 9 (8 ∷ []) (5 ∷ 6 ∷ 7 ∷ 8 ∷ [])
+
+one-sendable : CanBeSent toOne
+unfolding computing
+one-sendable zero lt = (sender 0 255, record { kind = refl; good = refl })
+one-sendable (suc zero) lt = (sender 0 255, record { kind = refl; good = refl })
+one-sendable (suc (suc k)) lt = let z : ⊥ = omega arith in absurd z
+
+other-sendable : CanBeSent toTwo
+unfolding computing
+other-sendable zero lt = (sender 0 255, record { kind = refl; good = refl })
+other-sendable (suc zero) lt = (sender 0 255, record { kind = refl; good = refl })
+other-sendable (suc (suc k)) lt = let z : ⊥ = omega arith in absurd z
+
 one-long : recordLength ≤ length one
 one-long = omega (arith, length-replicate {A = ℕ} recordLength 0)
 
 -- the receiver
-ready : (whole : List ℕ) → Ready (cut 3 1 5 [] whole) before
+ready : (x : Shipment) → kindOf (before .table .registry) (x .request .context .0) ≡ x .kind → x .association < 2 ^ 16 → Ready x before
 unfolding computing
-ready whole =
+ready x kind carrier =
     record {
       sound = refl;
-      typed = record { count = refl; each = all-replicate TypedPlace freePlace (record { origin = refl; association = omega arith }) placeCount };
-      kind = refl;
+      typed = record { count = refl; each = all-replicate TypedPlace freePlace (record { addresses = record { origin = refl; destination = refl }; association = omega arith }) placeCount };
+      kind = kind;
       store = omega (arith, length-replicate {A = ℕ} storeLeast 0);
       summary = record { size = refl; sound = refl };
-      carrier = omega arith;
+      carrier = carrier;
     }
 
 -- what Demand 2 says of two octets in one segment, and of three in three
 trip2 : {m : Machine} → Demand2 m → RoundTrip m two before one
-trip2 d = d .back two (λ k. sender 0 255) two-sendable before (ready (two .whole)) one one-long
+unfolding computing
+trip2 d = d .back two (λ k. sender 0 255) two-sendable before (ready two refl (omega arith)) one one-long
 
 trip3 : {m : Machine} → Demand2 m → RoundTrip m three before one
-trip3 d = d .back three (λ k. sender 0 255) three-sendable before (ready (three .whole)) one one-long
+unfolding computing
+trip3 d = d .back three (λ k. sender 0 255) three-sendable before (ready three refl (omega arith)) one one-long
 
 -- THE MACHINES
 -- the first of three is not accepted
@@ -437,12 +466,44 @@ rejects-cutsByClock d = let z : _≡_ {A = ℕ} 4 5 = ap (λ (a : Answer). a .le
 -- after first segments of 00 07 and of 07 a place is open for 07, and a record covered all that it had
 pub rejects-comparesNumbers : Demand3 comparesNumbers → ⊥
 unfolding computing
-rejects-comparesNumbers d = let z : _≡_ {A = ℕ} 1 0 = ap length (arriving d (from0007 ∷ from07 ∷ []) .1 .0 .agrees .exact key07) in omega arith
+rejects-comparesNumbers d = let z : _≡_ {A = ℕ} 1 0 = ap length (arriving d (between a0007 [] ∷ between a07 [] ∷ []) .1 .0 .agrees .exact (keyBetween a07 [])) in omega arith
 
 -- the same after the address 07 00
 pub rejects-comparesFilled : Demand3 comparesFilled → ⊥
 unfolding computing
-rejects-comparesFilled d = let z : _≡_ {A = ℕ} 1 0 = ap length (arriving d (from0700 ∷ from07 ∷ []) .1 .0 .agrees .exact key07) in omega arith
+rejects-comparesFilled d = let z : _≡_ {A = ℕ} 1 0 = ap length (arriving d (between a0700 [] ∷ between a07 [] ∷ []) .1 .0 .agrees .exact (keyBetween a07 [])) in omega arith
+
+-- the same of two destinations
+pub rejects-comparesNumbersTo : Demand3 comparesNumbersTo → ⊥
+unfolding computing
+rejects-comparesNumbersTo d = let z : _≡_ {A = ℕ} 1 0 = ap length (arriving d (between a07 a0007 ∷ between a07 a07 ∷ []) .1 .0 .agrees .exact (keyBetween a07 a07)) in omega arith
+
+pub rejects-comparesFilledTo : Demand3 comparesFilledTo → ⊥
+unfolding computing
+rejects-comparesFilledTo d = let z : _≡_ {A = ℕ} 1 0 = ap length (arriving d (between a07 a0700 ∷ between a07 a07 ∷ []) .1 .0 .agrees .exact (keyBetween a07 a07)) in omega arith
+
+pub rejects-passesOver : Demand3 passesOver → ⊥
+unfolding computing
+rejects-passesOver d = let z : _≡_ {A = ℕ} 1 0 = ap length (arriving d (between a07 [] ∷ between a07 a07 ∷ []) .1 .0 .agrees .exact (keyBetween a07 a07)) in omega arith
+
+-- after the first of two to 07 comes the first to 08, and then the last to 07: what comes back begins with what was for 08
+pub rejects-passesOver-both : Exchanges passesOver → ⊥
+unfolding computing
+rejects-passesOver-both d =
+    let free : TwoFree before = record { one = 0; two = 1; apart = λ e. omega arith; inside = (omega arith, omega arith); free = (refl, refl) } in
+    let differ : OtherDestination (keyIn toOne) (keyIn toTwo)
+    = record { association = refl; context = refl; origin = refl; reference = refl; destination = λ e. let z : _≡_ {A = ℕ} 7 8 = ap (λ (a : Address). nth 0 (a .octets)) e in omega arith } in
+    let z : _≡_ {A = ℕ} 5 1 = ap (nth 0)
+    (d .both toOne toTwo one-sendable other-sendable differ before (ready toOne refl (omega arith)) (ready toTwo refl (omega arith)) free _ 1 1
+    (ofOne one (omega arith) one-long refl (ofTwo one (omega arith) one-long refl neither)) one one-long .0 refl refl .handed) in
+    omega arith
+
+-- the loss of a later segment from 07 to nowhere says that it went to 07
+pub rejects-recordsOriginTwice : Demand3 recordsOriginTwice → ⊥
+unfolding computing
+rejects-recordsOriginTwice d =
+    let z : _≡_ {A = ℕ} 1 0 = ap (ofFirst (λ (x : Ending). x .key .destination .length)) (arriving d ((0x84 ∷ 0x80 ∷ 0x00 ∷ 0x85 ∷ 0x01 ∷ 0x07 ∷ 0x00 ∷ []) ∷ []) .0 .ruled .0 .ends) in
+    omega arith
 
 -- the second of three has no octets, and a record where the rules have none
 pub rejects-losesEmpty : Demand3 losesEmpty → ⊥
@@ -457,26 +518,26 @@ rejects-exchangesCauses d = let z : _≡_ {A = ℕ} 2 1 = ap (ofFirst (λ (x : E
 -- the first and the last of three are delivered
 pub rejects-joinsOverGap : Demand3 joinsOverGap → ⊥
 unfolding computing
-rejects-joinsOverGap d = let z : _≡_ {A = ℕ} 16 17 = ap (ofFirst (λ (x : Ending). x .kind)) (arriving d (first3 ∷ m4 ∷ []) .1 .0 .ruled .0 .ends) in omega arith
+rejects-joinsOverGap d = let z : _≡_ {A = ℕ} delivered lost = ap (ofFirst (λ (x : Ending). x .kind)) (arriving d (first3 ∷ m4 ∷ []) .1 .0 .ruled .0 .ends) in omega arith
 
 -- a first segment of no octets is delivered by the clock
 pub rejects-callsItDelivered-clock : Demand3 callsItDelivered → ⊥
 unfolding computing
 rejects-callsItDelivered-clock d =
-    let z : _≡_ {A = ℕ} 16 17 = calling d (toArrive 9 empty1 one ∷ toTick 100 all ∷ []) (omega arith, (omega arith, tt)) .1 .0 .ruled .0 .0 .kind in
+    let z : _≡_ {A = ℕ} delivered lost = calling d (toArrive 9 empty1 one ∷ toTick 100 all ∷ []) (omega arith, (omega arith, tt)) .1 .0 .ruled .0 .0 .kind in
     omega arith
 
 -- a first segment of no octets is delivered by a release
 pub rejects-callsItDelivered-release : Demand3 callsItDelivered → ⊥
 unfolding computing
 rejects-callsItDelivered-release d =
-    let z : _≡_ {A = ℕ} 16 17 = calling d (toArrive 9 empty1 one ∷ toRelease 9 all ∷ []) (omega arith, (omega arith, tt)) .1 .0 .ruled .0 .0 .kind in
+    let z : _≡_ {A = ℕ} delivered lost = calling d (toArrive 9 empty1 one ∷ toRelease 9 all ∷ []) (omega arith, (omega arith, tt)) .1 .0 .ruled .0 .0 .kind in
     omega arith
 
 -- a first segment of no octets is delivered by one of no octets that breaks its sequence
 pub rejects-callsItDelivered-segment : Demand3 callsItDelivered → ⊥
 unfolding computing
-rejects-callsItDelivered-segment d = let z : _≡_ {A = ℕ} 16 17 = ap (ofFirst (λ (x : Ending). x .kind)) (arriving d (empty1 ∷ empty3 ∷ []) .1 .0 .ruled .0 .ends) in omega arith
+rejects-callsItDelivered-segment d = let z : _≡_ {A = ℕ} delivered lost = ap (ofFirst (λ (x : Ending). x .kind)) (arriving d (empty1 ∷ empty3 ∷ []) .1 .0 .ruled .0 .ends) in omega arith
 
 -- a first segment twice: nothing is held of the second
 pub rejects-dropsRestart : Demand3 dropsRestart → ⊥
@@ -520,10 +581,14 @@ rejects-subtractsPlainly d =
     .1 .1 .0 .0 (keyWith 5) .1 (omega arith))
 
 -- the state and the call of the last are values of their types
+none-typed : OfAddress (addressOf [])
+none-typed = record { size = refl; octets = all-replicate (Bits 8) 0 (omega arith) addressMost; length = omega arith }
+
 free-typed : OfPlace freePlace
 free-typed =
     record {
-      origin = record { size = refl; octets = all-replicate (Bits 8) 0 (omega arith) addressMost; length = omega arith };
+      origin = none-typed;
+      destination = none-typed;
       association = omega arith;
       context = omega arith;
       reference = omega arith;

@@ -65,7 +65,7 @@ part-tail s start i e = go (leb (start + length i) (length s)) refl
         let m = n in
         sym (empty i (omega arith))
 
-not-opening : (st : State) (k : Key) (c : Call) → Spares st k c → isOpening c ≡ false
+pub not-opening : (st : State) (k : Key) (c : Call) → Spares st k c → isOpening c ≡ false
 not-opening st k (Opens x) spares = absurd spares
 not-opening st k (Arrives x) spares = refl
 not-opening st k (Ticks x) spares = refl
@@ -86,13 +86,14 @@ headingIn x k = headingFor (x .kind) (header x) (numbered (x .request) k) (lengt
 abbrev informationIn : Shipment → ℕ → List ℕ
 informationIn x k = carried (header x) (numbered (x .request) k) (x .whole)
 
-record Facts (x : Shipment) (k : ℕ) : Type 0 where
+pub record Facts (x : Shipment) (k : ℕ) : Type 0 where
   size : length (x .whole) ≤ 2048
   origin : length (x .origin) ≤ 20
+  destination : length (x .destination) ≤ 20
   ten : countIn x ≤ 10
   joins : segmentedIn x ≡ true → pieces (firstIn x) (laterIn x) (x .whole) (countIn x) ≡ x .whole
-  alone : isUnsegmented (headingIn x k .new) (headingIn x k .remaining .0) ≡ not (segmentedIn x)
-  reads : (r : List Entry) → kindOf r (x .request .context .0) ≡ x .kind
+  pub alone : isUnsegmented (headingIn x k .new) (headingIn x k .remaining .0) ≡ not (segmentedIn x)
+  pub reads : (r : List Entry) → kindOf r (x .request .context .0) ≡ x .kind
       → ReadsBack r (segmentOf x k) (headingIn x k) (x .origin) (x .destination) (informationIn x k)
 
 module _ (x : Shipment) (a : Sender) (k : ℕ) (can : Sendable x a k) where
@@ -108,6 +109,7 @@ module _ (x : Shipment) (a : Sender) (k : ℕ) (can : Sendable x a k) where
       (record {
         size = all .size;
         origin = all .origin;
+        destination = all .destination;
         ten = within-room _ _ _ _ _ _ (can .good) .count;
         joins = cut-joins _ _ _ _ _ _ (can .good);
         alone = alone-is _ _ _ _ _ _ (can .good);
@@ -121,7 +123,7 @@ module _ (x : Shipment) (a : Sender) (k : ℕ) (can : Sendable x a k) where
       subst (λ (kind : ℕ). IsSent (by kind) a k (seenBy ours (a .state) (sendingOf x a k))) (can .kind)
       (record { answer = rw ok; state = refl; handed = refl })
 
-ready-kept : (x : Shipment) (st : State) (c : Call) → isOpening c ≡ false → InRange c → Ready x st → Ready x (step st c .state)
+pub ready-kept : (x : Shipment) (st : State) (c : Call) → isOpening c ≡ false → InRange c → Ready x st → Ready x (step st c .state)
 ready-kept x st c o range r =
     record {
       sound = sound-kept st c o (r .sound);
@@ -193,6 +195,7 @@ module _ (x : Shipment) (ok : (k : ℕ) → k < countIn x → Facts x k) where
         record {
           heading = headingIn x k;
           origin = fieldsOf (st .table .registry) sent .origin;
+          destination = fieldsOf (st .table .registry) sent .destination;
           information = fieldsOf (st .table .registry) sent .information;
         }
 
@@ -233,7 +236,7 @@ module _ (x : Shipment) (ok : (k : ℕ) → k < countIn x → Facts x k) where
 
     ended-by : (instruction segments n : ℕ) → instruction ≡ x .request .instruction → segments ≡ countIn x → n ≡ length (x .whole)
         → take recordLength (splice report 0 (recordsOctets (recordWith delivered 0 (keyIn x) instruction segments n ∷ []))) ≡ recordOctets (recordIn x)
-    ended-by instruction segments n e1 e2 e3 = rw (e1, e2, e3) (one-reported (recordIn x) report (filled-of (x .origin) (ok k l .origin)) ample)
+    ended-by instruction segments n e1 e2 e3 = rw (e1, e2, e3) (one-reported (recordIn x) report (record { origin = filled-of (x .origin) (ok k l .origin); destination = filled-of (x .destination) (ok k l .destination) }) ample)
 
     -- the only one
     module _ (whole-one : segmentedIn x ≡ false) where
@@ -509,7 +512,7 @@ module _ (x : Shipment) (ok : (k : ℕ) → k < countIn x → Facts x k) where
           λ last. returns st r report ample j under can several p one last,
         )
 
-all-facts : (x : Shipment) → CanBeSent x → (k : ℕ) → k < countIn x → Facts x k
+pub all-facts : (x : Shipment) → CanBeSent x → (k : ℕ) → k < countIn x → Facts x k
 all-facts x can k l = facts x (can k l .0) k (can k l .1)
 
 -- demand 2 of one call

@@ -13,7 +13,7 @@ use Rattle.octets.proofs.Splice.{splice-length}
 use Rattle.rules.specs.General.{if_then_else_}
 use Rattle.rules.specs.Numbers.{placeStart, storeLeast, placeCount, stretchLength}
 use Rattle.rules.specs.Layout.{isUnsegmented}
-use Rattle.rules.specs.Records.{delivered, lost, Filled}
+use Rattle.rules.specs.Records.{delivered, lost, FilledKey}
 use Rattle.rules.specs.Places.{noPlace, freePlace, isOpen, isFree, holds, placeOf, lowestFree, placeAt, isAt}
 use Rattle.rules.specs.Soundness.{sound}
 use Rattle.rules.specs.Receiving.{informationOf, saveAt, begun, longer, recordWith, Effect, effectOf, isStart, lineOf, lineAt}
@@ -49,7 +49,7 @@ pub record Arrived (u : Key → List Segment) (k : Key) (x : Segment) (s : List 
   pub exact : (k′ : Key) → heldFrom (e .store) k′ 0 (e .places) ≡ owing (leftIn (isRestart line) u k x (e .records) k′)
 
 pub record KeyFits (k : Key) : Type 0 where
-  pub origin : Filled (k .origin)
+  pub addresses : FilledKey k
   pub association : k .association < 2 ^ 16
   pub context : k .context .0 < 2 ^ 16
 
@@ -100,7 +100,7 @@ module _ (t : Table) (store s : List ℕ) (f : Fields) (k : Key) (u : Key → Li
       → Done line (record { decision = d; records = recordWith kind cause k instruction segments size ∷ []; places = ps; store = store′ })
   ended-by line fresh d kind cause instruction segments size ps store′ b l c h e =
       record {
-        fits = (record { origin = fit .origin; association = fit .association; context = fit .context; octets = b }, tt);
+        fits = (record { addresses = fit .addresses; association = fit .association; context = fit .context; octets = b }, tt);
         one = omega arith;
         ends = l;
         fair = rw (fresh, filed-same u k (u k ++ (x ∷ []))) (c, tt);
@@ -172,7 +172,7 @@ module _ (t : Table) (store s : List ℕ) (f : Fields) (k : Key) (u : Key → Li
     unfolding effectOf delivery
     restart-done vacant =
         record {
-          fits = (record { origin = fit .origin; association = fit .association; context = fit .context; octets = let z = size in omega arith }, tt);
+          fits = (record { addresses = fit .addresses; association = fit .association; context = fit .context; octets = let z = size in omega arith }, tt);
           one = omega arith;
           ends = refl;
           fair = (counted-all (viewOf store i p) (u k) _ owed-here refl refl refl, tt);

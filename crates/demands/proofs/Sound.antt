@@ -11,7 +11,7 @@ use Rattle.rules.specs.General.{if_then_else_, every, everyTwo}
 use Rattle.rules.specs.Numbers.{entriesMost, timerInRange, elapsed}
 use Rattle.rules.specs.Refusals.{Check, _when_, accepted, first}
 use Rattle.rules.specs.Registry.{kindOf, entriesOf, isCut, isUnused, isEntry, isUsable, entriesApart, listsRegistry}
-use Rattle.rules.specs.Layout.{isUnsegmented, contextOf, originAt, fieldsOf, readingChecks}
+use Rattle.rules.specs.Layout.{isUnsegmented, contextOf, originAt, pastAddress, fieldsOf, readingChecks}
 use Rattle.rules.specs.Places.{noPlace, freePlace, holds, isAt, placeOf, placeAt, putPlace, lowestFree}
 use Rattle.rules.specs.Soundness.{isZero, addressSound, freeSound, placeSound, placesApart, sound}
 use Rattle.rules.specs.Opening.{emptyTable, openingChecks}
@@ -31,7 +31,7 @@ use Rattle.rules.specs.declared.Line.{Line}
 use Rattle.rules.specs.declared.Opened.{Opened}
 use Rattle.rules.proofs.Refusals.{Least, first-least, accepted-first}
 use Rattle.rules.proofs.Registry.{every-unused, padded-apart}
-use Rattle.rules.proofs.Reading.{parameter-short, origin-short, context-registered, reference-short}
+use Rattle.rules.proofs.Reading.{parameter-short, origin-short, destination-short, context-registered, reference-short}
 use Rattle.rules.proofs.Places.{IsFirst, place-is}
 use Rattle.rules.proofs.Held.{every-at, open-is}
 use Rattle.rules.proofs.Arrived.{arrived}
@@ -105,6 +105,10 @@ module _ (t : Table) (association : ℕ) (s : List ℕ) (reading : accepted (rea
   unfolding fieldsOf
   origin-sound = span-sound (kindOf (t .registry) (contextOf s)) s (originAt s) (origin-short (t .registry) s reading)
 
+  destination-sound : addressSound (kindOf (t .registry) (key .context .0)) (key .destination) ≡ true
+  unfolding fieldsOf
+  destination-sound = span-sound (kindOf (t .registry) (contextOf s)) s (pastAddress s (originAt s)) (destination-short (t .registry) s reading)
+
   registered : kindOf (t .registry) (key .context .0) ≡ 0 → ⊥
   unfolding fieldsOf
   registered = context-registered (t .registry) s reading
@@ -137,6 +141,7 @@ module _ (t : Table) (association : ℕ) (s : List ℕ) (reading : accepted (rea
         count = ten;
         octets = most;
         origin = origin-sound;
+        destination = destination-sound;
         young = young;
       }))
 

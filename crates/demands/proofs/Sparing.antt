@@ -19,6 +19,7 @@ use Rattle.rules.specs.declared.Key.{Key}
 use Rattle.rules.specs.declared.Place.{Place}
 use Rattle.rules.specs.declared.Table.{Table}
 use Rattle.rules.specs.declared.Record.{Record}
+use Rattle.rules.proofs.Soundness.{open-parts}
 use Rattle.rules.proofs.Cutting.{kind-known}
 use Rattle.rules.proofs.Held.{open-is, places-sound}
 use Rattle.rules.proofs.Records.{Fits, AllFit, records-back}
@@ -36,13 +37,12 @@ unfolding sound
 registry-usable t e = (simp and-eq-true-iff at e) .0 .0 .1 .0
 
 loss-fits : (r : List Entry) (timer clock cause : ℕ) (p : Place) → every isUsable r ≡ true → openSound r timer clock p ≡ true → TypedPlace p → Fits (lossOf cause p)
-unfolding openSound
 loss-fits r timer clock cause p usable e typed =
-    let all = simp and-eq-true-iff at e in
-    let known = kind-known r (p .key .context .0) usable (eqb-false (kindOf r (p .key .context .0)) 0 (not-true _ (all .0 .0 .0 .0 .0 .0 .0 .0 .0))) in
+    let all = open-parts r timer clock p e in
+    let known = kind-known r (p .key .context .0) usable (all .registered) in
     let most = known .2 in
-    let size = leb-true (p .octets) 2048 (all .0 .0 .1) in
-    record { origin = typed .origin; association = typed .association; context = omega arith; octets = omega arith }
+    let size = all .octets in
+    record { addresses = typed .addresses; association = typed .association; context = omega arith; octets = omega arith }
 
 module _ (test : Place → Bool) (opens : (p : Place) → test p ≡ true → isOpen p ≡ true) (cause : ℕ) where
   losses-fit : (r : List Entry) (timer clock : ℕ) (ps : List Place) → every isUsable r ≡ true → every (placeSound r timer clock) ps ≡ true → All TypedPlace ps

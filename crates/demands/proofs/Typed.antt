@@ -25,8 +25,8 @@ use Rattle.rules.specs.declared.Line.{Line}
 use Rattle.rules.specs.declared.Line.the-variants.{Unsegmented, Broken, Restart, Start, Final, Next}
 use Rattle.rules.specs.declared.Opened.{Opened}
 use Rattle.rules.proofs.Answers.{opened-by, segment-by, segment-accepted, clock-by, release-by}
-use Rattle.rules.proofs.Reading.{origin-short}
-use Rattle.rules.proofs.Records.{filled-at}
+use Rattle.rules.proofs.Reading.{origin-short, destination-short}
+use Rattle.rules.proofs.Records.{filled-key}
 use Rattle.rules.proofs.Arrived.{arrived}
 use Rattle.demands.specs.Machine.{All, InRange, TypedPlace, Typed}
 
@@ -35,7 +35,7 @@ abbrev TypedPlaces : List Place → Type 0
 TypedPlaces ps = (length ps ≡ placeCount) × All TypedPlace ps
 
 free-typed : TypedPlace freePlace
-free-typed = record { origin = refl; association = omega arith }
+free-typed = record { addresses = record { origin = refl; destination = refl }; association = omega arith }
 
 all-set : (ps : List Place) (i : ℕ) (p : Place) → TypedPlace p → All TypedPlace ps → All TypedPlace (set ps i p)
 all-set [] i p h all = tt
@@ -53,11 +53,11 @@ all-free (suc n) = (free-typed, all-free n)
 empty-typed : (entries : List Entry) (timer clock : ℕ) → Typed (emptyTable entries timer clock)
 empty-typed entries timer clock = record { count = refl; each = all-free placeCount }
 
--- a place with the key of a segment whose address is within 20
-key-typed : (association : ℕ) (s : List ℕ) (f : Fields) → association < 2 ^ 16 → f .origin .length ≤ addressMost → (p : Place) → p .key ≡ keyOf association s f → TypedPlace p
-key-typed association s f a n p e =
+-- a place with the key of a segment whose addresses are within 20
+key-typed : (association : ℕ) (s : List ℕ) (f : Fields) → association < 2 ^ 16 → f .origin .length ≤ addressMost → f .destination .length ≤ addressMost → (p : Place) → p .key ≡ keyOf association s f → TypedPlace p
+key-typed association s f a o d p e =
     record {
-      origin = rw e (filled-at s (f .origin) n);
+      addresses = rw e (filled-key association s f o d);
       association = rw e a;
     }
 
@@ -96,8 +96,9 @@ typed-kept st (Arrives x) h r =
     segment-by (st .table) (st .summary) (st .store) (x .report) (x .association) s (λ (o : Reception). Typed (o .answer .table))
     (λ e.
     let own = segment-accepted (st .table) (st .summary) (st .store) (x .report) (x .association) s e .0 .own in
-    let short = origin-short (st .table .registry) s (arrived (st .table) (st .store) (x .report) (x .association) s own .reading) in
-    let all = effect-typed _ (st .table) (st .store) _ _ _ _ _ _ (key-typed (x .association) s (fieldsOf (st .table .registry) s) r short) (h .count, h .each) in
+    let read = arrived (st .table) (st .store) (x .report) (x .association) s own .reading in
+    let new = key-typed (x .association) s (fieldsOf (st .table .registry) s) r (origin-short (st .table .registry) s read) (destination-short (st .table .registry) s read) in
+    let all = effect-typed _ (st .table) (st .store) _ _ _ _ _ _ new (h .count, h .each) in
     record { count = all .0; each = all .1 })
     (λ e. h)
 typed-kept st (Ticks x) h r =

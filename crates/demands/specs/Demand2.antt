@@ -92,6 +92,7 @@ keyIn x =
       association = x .association;
       context = x .request .context;
       origin = addressOf (x .origin);
+      destination = addressOf (x .destination);
       reference = record { 0 = if segmentedIn x then x .request .reference .0 else 255 };
     }
 

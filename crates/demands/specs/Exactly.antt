@@ -29,6 +29,7 @@ pub record OfAddress (a : Address) : Type 0 where
 
 pub record OfPlace (p : Place) : Type 0 where
   pub origin : OfAddress (p .key .origin)
+  pub destination : OfAddress (p .key .destination)
   pub association : Bits 16 (p .key .association)
   pub context : Bits 16 (p .key .context .0)
   pub reference : Bits 8 (p .key .reference .0)

@@ -4,9 +4,9 @@ use Prim.Native.Nat.{ℕ, _+_, _<_}
 use mathlib.Core.Path.{_≡_}
 use mathlib.Core.Bool.{true, false}
 use mathlib.Core.List.{List, [], _∷_, _++_}
-use lib.ListN.{length, take}
+use lib.ListN.{length}
 use Rattle.rules.specs.General.{if_then_else_}
-use Rattle.rules.specs.Layout.{contextOf, at2, contextOctets}
+use Rattle.rules.specs.Layout.{contextOf, contextPart, contextOctets}
 use Rattle.rules.specs.Records.{delivered}
 use Rattle.rules.specs.Places.{sameKey}
 use Rattle.rules.specs.Lines.{octetsOf}
@@ -57,10 +57,6 @@ pub record Complete (h : Told) : Type 0 where
 
 abbrev pub Unforgetting : Machine → Type 0
 Unforgetting m = Meets (λ (h : Told) (x : Seen). Complete (after h x)) m
-
--- the octets of a parameter's context, as they came
-abbrev pub contextPart : List ℕ → List ℕ
-contextPart s = take (at2 s) s
 
 -- document 02, A2: of two parameters that are accepted, at any two states, equal contexts mean equal context octets; these are the shortest form, which we write ourselves
 pub record OneForm (m : Machine) : Type 0 where

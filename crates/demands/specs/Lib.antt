@@ -10,6 +10,7 @@ pub mod Demand2
 pub mod Follows
 pub mod Exactly
 pub mod Demanded
+pub mod Exchanges
 pub mod Replayed
 pub mod Totals
 pub mod Wrong

@@ -5,7 +5,7 @@ use mathlib.Core.Bool.{Bool, true, false}
 use mathlib.Core.List.{List, [], _∷_, _++_}
 use lib.ListN.{length}
 use Rattle.rules.specs.Numbers.{placeCount}
-use Rattle.rules.specs.Records.{Filled}
+use Rattle.rules.specs.Records.{FilledKey}
 use Rattle.rules.specs.Refusals.{Check, accepted}
 use Rattle.rules.specs.Delivery.{delivery}
 use Rattle.rules.specs.Opening.{openingChecks}
@@ -73,9 +73,9 @@ InRange (Ticks x) = x .time < 2 ^ 32
 InRange (Releases x) = x .association < 2 ^ 16
 InRange (Sends x) = Unit {0}
 
--- what the types of a table's fields say: 16 places, each with an address of 20 octets and an association of 16 bits
+-- what the types of a table's fields say: 16 places, each with addresses of 20 octets and an association of 16 bits
 pub record TypedPlace (p : Place) : Type 0 where
-  pub origin : Filled (p .key .origin)
+  pub addresses : FilledKey (p .key)
   pub association : p .key .association < 2 ^ 16
 
 pub record Typed (t : Table) : Type 0 where

@@ -12,7 +12,7 @@ use Rattle.rules.specs.Refusals.{Check, accepted, judged}
 use Rattle.rules.specs.Registry.{kindOf}
 use Rattle.rules.specs.Records.{delivered, lost, addressOf, recordOctets, recordsOctets}
 use Rattle.rules.specs.Layout.{isUnsegmented, fieldsOf, contextOctets, parameterOctets}
-use Rattle.rules.specs.Places.{freePlace, isOpen, isFree, sameOctets, firstFrom, placeOf, lowestFree, isAt, placeAt, putPlace}
+use Rattle.rules.specs.Places.{freePlace, isOpen, isFree, sameOctets, sameAddress, firstFrom, placeOf, lowestFree, isAt, placeAt, putPlace}
 use Rattle.rules.specs.Receiving.{keyOf, informationOf, recordWith, openPlace, lineOf, Effect, effectOf, receptionOf}
 use Rattle.rules.specs.Sweep.{Sweeping, sweep}
 use Rattle.rules.specs.Summary.{counting, unusedRow, tally, tookAt, took, billed, segmentSums, sweepSums}
@@ -157,7 +157,7 @@ handsOutMore = record { step = step; deliver = tooMuch }
 abbrev emptyLoss : ℕ → Record
 emptyLoss association =
     recordWith lost 7
-    (record { association = association; context = record { 0 = 0 }; origin = addressOf []; reference = record { 0 = 0 } })
+    (record { association = association; context = record { 0 = 0 }; origin = addressOf []; destination = addressOf []; reference = record { 0 = 0 } })
     0 0 0
 
 abbrev pub losesNothing : Machine
@@ -283,23 +283,44 @@ deciding decide = joining placeOf lowestFree decide unchanged
 abbrev changing : Changing → Machine
 changing change = joining placeOf lowestFree lineOf change
 
--- two keys with the same association, context and reference; their addresses are for another test
-abbrev sameBut : (Key → Key → Bool) → Finding
-sameBut test k ps =
+-- two keys with the same association, context and reference; each of their addresses is for another test
+abbrev sameBut : (Address → Address → Bool) → (Address → Address → Bool) → Finding
+sameBut from to k ps =
     firstFrom
-    (λ p. isOpen p && eqb (p .key .association) (k .association) && eqb (p .key .context .0) (k .context .0) && eqb (p .key .reference .0) (k .reference .0) && test (p .key) k)
+    (λ p.
+    isOpen p && eqb (p .key .association) (k .association) && eqb (p .key .context .0) (k .context .0) && eqb (p .key .reference .0) (k .reference .0)
+    && from (p .key .origin) (k .origin) && to (p .key .destination) (k .destination))
     ps 0
 
--- addresses are compared as numbers: 00 07 and 07 are one
-abbrev addressNumber : Address → ℕ
-addressNumber a = number (take (a .length) (a .octets))
+-- addresses compared as numbers: 00 07 and 07 are one; and without their length: 07 and 07 00 are one
+abbrev asNumbers : Address → Address → Bool
+asNumbers a b = eqb (number (take (a .length) (a .octets))) (number (take (b .length) (b .octets)))
+
+abbrev asFilled : Address → Address → Bool
+asFilled a b = sameOctets (a .octets) (b .octets)
 
 abbrev pub comparesNumbers : Machine
-comparesNumbers = finding (sameBut (λ a b. eqb (addressNumber (a .origin)) (addressNumber (b .origin))))
+comparesNumbers = finding (sameBut asNumbers sameAddress)
 
--- addresses are compared without their length: 07 and 07 00 are one
 abbrev pub comparesFilled : Machine
-comparesFilled = finding (sameBut (λ a b. sameOctets (a .origin .octets) (b .origin .octets)))
+comparesFilled = finding (sameBut asFilled sameAddress)
+
+-- the same of the destination, and the machine as it was before document 02's A3: the destination is passed over
+abbrev pub comparesNumbersTo : Machine
+comparesNumbersTo = finding (sameBut sameAddress asNumbers)
+
+abbrev pub comparesFilledTo : Machine
+comparesFilledTo = finding (sameBut sameAddress asFilled)
+
+abbrev pub passesOver : Machine
+passesOver = finding (sameBut sameAddress (λ a b. true))
+
+-- a record has the origin twice
+abbrev returned : Key → Key
+returned k = record { association = k .association; context = k .context; origin = k .origin; destination = k .origin; reference = k .reference }
+
+abbrev pub recordsOriginTwice : Machine
+recordsOriginTwice = recording (λ r. recordWith (r .kind) (r .cause) (returned (r .key)) (r .instruction) (r .segments) (r .octets))
 
 -- a new sequence goes to the highest free place
 abbrev highestFrom : List Place → ℕ → Found → Found

@@ -20,7 +20,7 @@ pub struct CReceived {
 
 // Opens a table from registry octets, T and the clock, and empties the summary.
 #[no_mangle]
-pub extern "C" fn egrynnol_2_opening(
+pub extern "C" fn egrynnol_3_opening(
     m: &mut [u64; rules::SUMMARY],
     registry: &[u8],
     timer: u32,
@@ -33,7 +33,7 @@ pub extern "C" fn egrynnol_2_opening(
 
 // A segment arrives.
 #[no_mangle]
-pub extern "C" fn egrynnol_2_segment(
+pub extern "C" fn egrynnol_3_segment(
     t: Table,
     m: &mut [u64; rules::SUMMARY],
     store: &mut [u8],
@@ -56,7 +56,7 @@ pub extern "C" fn egrynnol_2_segment(
 
 // The clock goes on.
 #[no_mangle]
-pub extern "C" fn egrynnol_2_clock(
+pub extern "C" fn egrynnol_3_clock(
     t: Table,
     m: &mut [u64; rules::SUMMARY],
     report: &mut [u8],
@@ -69,7 +69,7 @@ pub extern "C" fn egrynnol_2_clock(
 
 // An association is released.
 #[no_mangle]
-pub extern "C" fn egrynnol_2_release(
+pub extern "C" fn egrynnol_3_release(
     t: Table,
     m: &mut [u64; rules::SUMMARY],
     report: &mut [u8],
@@ -82,7 +82,7 @@ pub extern "C" fn egrynnol_2_release(
 
 // Where the octets are that a segment delivered.
 #[no_mangle]
-pub extern "C" fn egrynnol_2_delivery<'a>(
+pub extern "C" fn egrynnol_3_delivery<'a>(
     decision: CDecision,
     s: &'a [u8],
     store: &'a [u8],
@@ -96,7 +96,7 @@ pub extern "C" fn egrynnol_2_delivery<'a>(
 
 // Writes one segment of the data.
 #[no_mangle]
-pub extern "C" fn egrynnol_2_sending(
+pub extern "C" fn egrynnol_3_sending(
     t: Table,
     q: Request,
     origin: &[u8],

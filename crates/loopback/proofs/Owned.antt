@@ -19,7 +19,10 @@ abbrev Owned : List Place → List Val → Type 0
 Owned ps us = shadow (each (field place.the-type .row .Denot) (field place.the-type .row .own) (map (field place.the-type .into) ps) us)
 
 owned-place : (p : Place) (u : Val) → shadow (field place.the-type .row .own (field place.the-type .into p) (u ∷ [])) → TypedPlace p
-owned-place p u g = let key = g .1 .1 .0 in record { origin = simp length-map at (key .1 .1 .1 .1 .0 .1 .1 .0 .1 .0 .1); association = key .1 .1 .0 .1 }
+owned-place p u g = let key = g .1 .1 .0 in record {
+  addresses = record { origin = simp length-map at (key .1 .1 .1 .1 .0 .1 .1 .0 .1 .0 .1); destination = simp length-map at (key .1 .1 .1 .1 .1 .0 .1 .1 .0 .1 .0 .1) };
+  association = key .1 .1 .0 .1;
+}
 
 owned-each : (ps : List Place) (us : List Val) → Owned ps us → All TypedPlace ps
 owned-each [] us g = tt

@@ -11,7 +11,7 @@ use lib.ListN.{length, getD, length-drop}
 use Rattle.rules.specs.General.{every}
 use Rattle.rules.specs.Layout.{fieldsOf}
 use Rattle.rules.specs.Places.{noPlace, isOpen, isAt, placeOf, placeAt, lowestFree}
-use Rattle.rules.specs.Soundness.{freeSound, placeSound, sound}
+use Rattle.rules.specs.Soundness.{placeSound, sound}
 use Rattle.rules.specs.Receiving.{Reception, keyOf, informationOf, effectOf, receivedAt}
 use Rattle.rules.specs.Summary.{Counted, everyBelow, totalCount, totalMost, tally, seat, rowOf, rowFor, unusedRow, orElse, tookAt, took, columnOf, billAt, bill, billed, fits, segmentSums}
 use Rattle.rules.specs.Calls.{State, toArrive, step}
@@ -31,7 +31,7 @@ use Rattle.rules.proofs.Fitting.{tally-first, tally-second, tally-other, seat-t
 use Rattle.rules.proofs.Seats.{took-sound, billed-keeps}
 use Rattle.rules.proofs.Answers.{segment-with}
 use Rattle.rules.proofs.Held.{open-is, places-sound}
-use Rattle.rules.proofs.Soundness.{open-parts}
+use Rattle.rules.proofs.Soundness.{open-parts, free-holds}
 use Rattle.demands.specs.Machine.{SoundSummary, CanCount}
 use Rattle.demands.proofs.Counted.{summary-kept}
 use Rattle.demands.proofs.Sound.{kept as sound-kept}
@@ -86,7 +86,6 @@ none-small = record { segments = omega arith; octets = omega arith }
 
 module _ (registry : List Entry) (timer clock : ℕ) where
   place-small : (p : Place) → placeSound registry timer clock p ≡ true → Small p
-  unfolding freeSound
   place-small p e = go (isOpen p) refl
     where
       go : (b : Bool) → isOpen p ≡ b → Small p
@@ -94,10 +93,8 @@ module _ (registry : List Entry) (timer clock : ℕ) where
           let h = open-parts registry timer clock p (open-is registry timer clock p e o) in
           record { segments = omega (arith, h .count); octets = h .octets }
       go false o =
-          let all = simp and-eq-true-iff at (simp o at e) in
-          let octets = eqb-true (p .octets) 0 (all .1 .0 .0 .0 .0 .0 .1) in
-          let segments = eqb-true (p .segments) 0 (all .1 .0 .1) in
-          record { segments = omega arith; octets = omega arith }
+          let z = free-holds registry timer clock p e o in
+          record { segments = omega (arith, z .1); octets = omega (arith, z .0) }
 
   places-small : (ps : List Place) → every (placeSound registry timer clock) ps ≡ true → (i : ℕ) → Small (getD ps i noPlace)
   places-small [] e i = none-small

@@ -32,13 +32,13 @@ use Rattle.param_read.specs.declared.Reading.the-variants.{Read, Refused
 -- the destination after the origin
 abbrev pub afterDestination : Span → AddressField → AddressesField
 afterDestination o (NoAddress e) = NoAddresses e
-afterDestination o (AddressIs d past) = AddressesAre (record { origin = o; information = past })
+afterDestination o (AddressIs d past) = AddressesAre (record { origin = o; destination = d; information = past })
 
 abbrev pub afterOrigin : List ℕ → AddressField → AddressesField
 afterOrigin s (NoAddress e) = NoAddresses e
 afterOrigin s (AddressIs o past) = afterDestination o (addressField s past)
 
-pub addresses-none : (s : List ℕ) (kind at : ℕ) → eqb kind 2 ≡ false → addressesField s kind at ≡ AddressesAre (record { origin = record { at = 0; length = 0 }; information = at })
+pub addresses-none : (s : List ℕ) (kind at : ℕ) → eqb kind 2 ≡ false → addressesField s kind at ≡ AddressesAre (record { origin = record { at = 0; length = 0 }; destination = record { at = 0; length = 0 }; information = at })
 unfolding addressesField
 addresses-none s kind at e = simp e
 

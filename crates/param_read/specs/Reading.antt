@@ -2,7 +2,7 @@
 use Prim.Native.Nat.{ℕ}
 use mathlib.Core.List.{List}
 use Rattle.rules.specs.Refusals.{judged}
-use Rattle.rules.specs.Layout.{hasAddresses, spanAt, informationAt, fieldsOf, addressesChecks, readingChecks}
+use Rattle.rules.specs.Layout.{hasAddresses, pastAddress, spanAt, informationAt, fieldsOf, addressesChecks, readingChecks}
 use Rattle.rules.specs.declared.Context.{Context}
 use Rattle.rules.specs.declared.Entry.{Entry}
 use Rattle.rules.specs.declared.Heading.{Heading}
@@ -18,6 +18,7 @@ addressesField s kind at =
     (AddressesAre
     (record {
       origin = spanAt (hasAddresses kind) s at;
+      destination = spanAt (hasAddresses kind) s (pastAddress s at);
       information = informationAt kind s at;
     }))
 
@@ -40,4 +41,4 @@ headingFrom context kind instruction q =
 unfoldable pub afterAddresses : Heading → AddressesField → Reading
 afterAddresses g (NoAddresses n) = Refused n
 afterAddresses g (AddressesAre a) =
-    Read (record { heading = g; origin = a .origin; information = a .information })
+    Read (record { heading = g; origin = a .origin; destination = a .destination; information = a .information })

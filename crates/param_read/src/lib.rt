@@ -15,6 +15,7 @@ ghost use Rattle.param_read.specs.Reading.{addressesField, headingFrom, 
 
 pub struct Addresses {
     pub origin: Span,
+    pub destination: Span,
     pub information: usize,
 }
 
@@ -29,13 +30,14 @@ pub enum Reading {
     Refused(u8),
 }
 
-// Both addresses, where the kind has them: the originating one, and where the information starts.
+// Both addresses, where the kind has them, and where the information starts.
 fn addresses_field(s: &[u8], kind: u8, at: usize) -> AddressesField
     ensures { λ r. ⌜ r ≡ addressesField (now (s .entry)) kind at ⌝ }
 {
     if kind != 2 {
         return AddressesField::AddressesAre(Addresses {
             origin: Span { at: 0, length: 0 },
+            destination: Span { at: 0, length: 0 },
             information: at,
         });
     }
@@ -43,9 +45,10 @@ fn addresses_field(s: &[u8], kind: u8, at: usize) -> AddressesField
         AddressField::NoAddress(n) => AddressesField::NoAddresses(n),
         AddressField::AddressIs(origin, end) => match param_fields::address_field(s, end) {
             AddressField::NoAddress(n) => AddressesField::NoAddresses(n),
-            AddressField::AddressIs(_, information) => {
+            AddressField::AddressIs(destination, information) => {
                 AddressesField::AddressesAre(Addresses {
                     origin,
+                    destination,
                     information,
                 })
             }
@@ -77,9 +80,11 @@ fn rest(s: &[u8], heading: Heading, at: usize) -> Reading
         AddressesField::NoAddresses(n) => Reading::Refused(n),
         AddressesField::AddressesAre(a) => {
             let origin = a.origin;
+            let destination = a.destination;
             Reading::Read(Fields {
                 heading,
                 origin,
+                destination,
                 information: a.information,
             })
         }

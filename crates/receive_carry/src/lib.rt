@@ -138,7 +138,14 @@ fn unsegmented(j: Judged, n: usize) -> Verdict
         length: n,
     };
     let v = taken(j, j.held, Decision::Delivered(part));
-    telling(v, 16, 0, j.fields.heading.instruction, 1, n as u16)
+    telling(
+        v,
+        rules::DELIVERED,
+        0,
+        j.fields.heading.instruction,
+        1,
+        n as u16,
+    )
 }
 
 // Lines 1, 4, 5 and 6: what was saved, if anything, and this segment, of n octets, are lost.
@@ -151,7 +158,7 @@ fn broken(cause: u8, j: Judged, n: usize) -> Verdict
     let segments = p.segments + 1;
     let place = found_if(j.found, j.at);
     let v = taken(j, freed(j), Decision::Lost(cause, place));
-    telling(v, 17, cause, instruction_of(j), segments, octets)
+    telling(v, rules::LOST, cause, instruction_of(j), segments, octets)
 }
 
 // Line 2: what was saved is lost, and this segment starts the sequence in the same place.
@@ -161,7 +168,14 @@ fn restart(j: Judged, n: usize) -> Verdict
 {
     let next = begun_place(j, n);
     let v = saving(taken(j, next, Decision::Lost(3, Found::At(j.at))), 0);
-    telling(v, 17, 3, j.held.instruction, j.held.segments, j.held.octets)
+    telling(
+        v,
+        rules::LOST,
+        3,
+        j.held.instruction,
+        j.held.segments,
+        j.held.octets,
+    )
 }
 
 // Line 3: saved in the place for a new sequence.
@@ -186,7 +200,14 @@ fn finish(j: Judged, n: usize) -> Verdict
         length: total,
     };
     let v = saving(taken(j, free, Decision::Delivered(part)), j.held.octets);
-    telling(v, 16, 0, j.held.instruction, segments, total as u16)
+    telling(
+        v,
+        rules::DELIVERED,
+        0,
+        j.held.instruction,
+        segments,
+        total as u16,
+    )
 }
 
 // Line 7, more remaining: saved.

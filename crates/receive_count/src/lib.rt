@@ -19,7 +19,7 @@ pub struct Count {
 fn column(kind: u8) -> usize
     ensures { λ r. ⌜ r ≡ columnOf kind ⌝ }
 {
-    if kind == 16 {
+    if kind == rules::DELIVERED {
         return 4;
     }
     6

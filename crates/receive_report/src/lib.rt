@@ -51,4 +51,6 @@ pub fn put_record(report: &mut [u8], at: usize, r: Record)
     octets::put_at(report, at, &first);
     let origin = r.key.origin;
     put_address(report, at + 11, origin);
+    let destination = r.key.destination;
+    put_address(report, at + 32, destination);
 }

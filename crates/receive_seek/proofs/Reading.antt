@@ -10,7 +10,7 @@ use Rattle.rules.specs.Refusals.{accepted, first}
 use Rattle.rules.specs.Layout.{fieldsOf, readingChecks}
 use Rattle.rules.proofs.Refusals.{first-least}
 use Rattle.rules.proofs.Least.{reading-least}
-use Rattle.rules.proofs.Reading.{parameter-short, origin-short}
+use Rattle.rules.proofs.Reading.{parameter-short, origin-short, destination-short}
 use Rattle.param_read.specs.Reading.{reading}
 use Rattle.param_read.specs.declared.Reading.{Reading}
 use Rattle.param_read.specs.declared.Reading.the-variants.{Read, Refused}
@@ -22,6 +22,7 @@ use Rattle.rules.specs.declared.Fields.{Fields}
 pub record Short (s : List ℕ) (f : Fields) : Type 0 where
   pub parameter : length s ≤ parameterMost
   pub origin : f .origin .length ≤ addressMost
+  pub destination : f .destination .length ≤ addressMost
 
 pub read-short : (t : Table) (s : List ℕ) (f : Fields) → reading (t .registry) s ≡ Read f → Short s f
 unfolding reading
@@ -30,7 +31,11 @@ read-short t s f e = go (accepted (readingChecks (t .registry) s)) refl
     go : (b : Bool) → accepted (readingChecks (t .registry) s) ≡ b → Short s f
     go true a =
         let same : fieldsOf (t .registry) s ≡ f = let same-read = simp a at e in cc in
-        record { parameter = parameter-short (t .registry) s a; origin = rw same at (origin-short (t .registry) s a) }
+        record {
+          parameter = parameter-short (t .registry) s a;
+          origin = rw same at (origin-short (t .registry) s a);
+          destination = rw same at (destination-short (t .registry) s a);
+        }
     go false a = let z : _≡_ {A = ℕ} 0 1 = let other = simp a at e in cc in absurd (let y : ⊥ = omega arith in y)
 
 -- readings that are one have one number or the same fields

@@ -39,18 +39,21 @@ fn address_at(s: &[u8], a: Span) -> Address
 
 // The key of a segment's sequence.
 fn key_of(association: u16, s: &[u8], f: Fields) -> Key
-    requires { ⌜ f .origin .length ≤ addressMost ⌝ }
+    requires { ⌜ (f .origin .length ≤ addressMost) × (f .destination .length ≤ addressMost) ⌝ }
     ensures { λ r. ⌜ r ≡ keyOf association (now (s .entry)) f ⌝ }
 {
     let heading = f.heading;
     let context = heading.context;
     let reference = heading.reference;
     let from = f.origin;
+    let to = f.destination;
     let origin = address_at(s, from);
+    let destination = address_at(s, to);
     Key {
         association,
         context,
         origin,
+        destination,
         reference,
     }
 }

@@ -4,7 +4,6 @@ use mathlib.Core.Path.{_≡_, refl, sym, ap, _∙_}
 use mathlib.Core.Bool.{Bool, true, false, not, _&&_, and-eq-true-iff, true≢false}
 use mathlib.Core.List.{List, [], _∷_, _++_}
 use native.Mathlib.Omega.{arith}
-use borrow.Author.Tests.{eqb-true}
 use lib.ListN.{length, getD}
 use Rattle.rules.specs.General.{every}
 use Rattle.rules.specs.Refusals.{Check, judged}
@@ -12,7 +11,7 @@ use Rattle.rules.specs.Layout.{isUnsegmented, fieldsOf, readingChecks}
 use Rattle.rules.specs.Places.{noPlace, freePlace, isOpen, placeOf, lowestFree, isAt, placeAt}
 use Rattle.rules.specs.Soundness.{freeSound, placeSound, sound}
 use Rattle.rules.proofs.Held.{open-is, places-sound}
-use Rattle.rules.proofs.Soundness.{open-parts}
+use Rattle.rules.proofs.Soundness.{open-parts, free-holds}
 use Rattle.rules.specs.declared.Entry.{Entry}
 use Rattle.rules.specs.Receiving.{keyOf, informationOf, lineOf, lineAt, isStart, effectOf, Reception, receptionOf, lentChecks, takingChecks, segmentChecks, segment, unreceived}
 use Rattle.rules.proofs.Refusals.{judged-append, judged-then}
@@ -170,14 +169,6 @@ module _ (t : Table) (store report : List ℕ) (f : Fields) (octets : List ℕ) 
           (seeks .points a .open-at) (saved-is (t .places) (q .search .at) (q .search .found) held place (seeks .points a .open-at) there) line (free-at a e) in
           ap (receptionOf t report) same ∙ rw (← line-at a) (simp (sym (same-room a) ∙ e))
 
--- a place of a sound table that is not open is free, and holds nothing
-free-zero : (registry : List Entry) (timer clock : ℕ) (p : Place) → placeSound registry timer clock p ≡ true → isOpen p ≡ false → (p .octets ≡ 0) × (p .segments ≡ 0)
-unfolding freeSound
-free-zero registry timer clock p e o =
-    let free = simp o at e in
-    let all = simp and-eq-true-iff at free in
-    (eqb-true _ _ (all .1 .0 .0 .0 .0 .0 .1), eqb-true _ _ (all .1 .0 .1))
-
 every-get : {A : Type 0} (f : A → Bool) (l : List A) (d : A) (i : ℕ) → every f l ≡ true → f d ≡ true → f (getD l i d) ≡ true
 every-get f [] d i e h = h
 every-get f (x ∷ l) d zero e h = and-eq-true-iff (f x) (every f l) .0 e .0
@@ -195,7 +186,7 @@ fit t i s =
         let count = all .count in
         let left = all .left in
         record { octets = all .octets; segments = omega arith }
-    go p ok false o = let z = free-zero (t .registry) (t .timer) (t .clock) p ok o in record { octets = omega (arith, z .0); segments = omega (arith, z .1) }
+    go p ok false o = let z = free-holds (t .registry) (t .timer) (t .clock) p ok o in record { octets = omega (arith, z .0); segments = omega (arith, z .1) }
 
 -- after the first checks, reading; after reading, the arrival
 abbrev pub afterReading : Table → List ℕ → List ℕ → ℕ → List ℕ → Reading → Reception

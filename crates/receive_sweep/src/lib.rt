@@ -47,7 +47,7 @@ fn lost(p: Place, cause: u8) -> Record
     Record {
         key,
         octets: p.octets,
-        kind: 17,
+        kind: rules::LOST,
         instruction: p.instruction,
         cause,
         segments: p.segments,

@@ -13,7 +13,7 @@ use Rattle.rules.specs.General.{if_then_else_}
 use Rattle.rules.specs.Numbers.{parameterMost}
 use Rattle.rules.specs.Refusals.{Check, _when_, accepted}
 use Rattle.rules.specs.Registry.{kindOf}
-use Rattle.rules.specs.Layout.{octet, contextOf, at2, at3, isNew, remainingOf, isUnsegmented, referenceOf, pastSequence, originAt, pastAddress, hasAddresses, informationAt, fieldsOf, lastChecks, contextChecks, sequenceChecks, addressChecks, addressesChecks, readingChecks, contextOctets, sequenceOctets, addressesOctets, parameterOctets}
+use Rattle.rules.specs.Layout.{octet, contextOf, at2, at3, isNew, remainingOf, isUnsegmented, referenceOf, pastSequence, originAt, pastAddress, hasAddresses, spanAt, informationAt, fieldsOf, lastChecks, contextChecks, sequenceChecks, addressChecks, addressesChecks, readingChecks, contextOctets, sequenceOctets, addressesOctets, parameterOctets}
 use Rattle.rules.specs.Records.{addressOf}
 use Rattle.rules.specs.Receiving.{addressAt}
 use Rattle.rules.specs.Sending.{isSegmented, headingFor, carried, segmentOctets, sendingChecks}
@@ -145,6 +145,7 @@ sequence-back g s at rest most alone apart = go (isUnsegmented (g .new) (g .rema
 record AddressBack (a s : List ℕ) (at : ℕ) (rest : List ℕ) : Type 0 where
   size : octet s at ≡ length a
   octets : take (length a) (drop (at + 1) s) ≡ a
+  address : addressAt s (spanAt true s at) ≡ addressOf a
   checks : accepted (addressChecks s at) ≡ true
   past : drop (pastAddress s at) s ≡ rest
 
@@ -157,23 +158,23 @@ address-back a s at rest most e =
     let l1 = ap length f in
     let l2 = length-append a rest in
     let fits : at + 1 + length a ≤ length s = omega arith in
+    let octets : take (length a) (drop (at + 1) s) ≡ a = rw f (take-append-seam a rest) in
     record {
       size = size;
-      octets = rw f (take-append-seam a rest);
+      octets = octets;
+      address = rw (size, octets);
       checks = simp (lt-leb _ _ here, size, le-ltb _ _ most, le-ltb _ _ fits);
       past = rw (size, ← drop-drop (length a) (at + 1) s, f) (drop-append-seam a rest);
     }
 
 -- both addresses, or none, and the information
 record AddressesBack (kind : ℕ) (o d s : List ℕ) (at : ℕ) (rest : List ℕ) : Type 0 where
-  size : (if hasAddresses kind then octet s at else 0) ≡ length o
-  origin : take (length o) (drop (if hasAddresses kind then at + 1 else 0) s) ≡ o
-  destinationSize : kind ≡ 2 → octet s (pastAddress s at) ≡ length d
-  destination : kind ≡ 2 → take (length d) (drop (pastAddress s at + 1) s) ≡ d
+  origin : addressAt s (spanAt (hasAddresses kind) s at) ≡ addressOf o
+  destination : addressAt s (spanAt (hasAddresses kind) s (pastAddress s at)) ≡ addressOf d
   checks : accepted (addressesChecks kind s at) ≡ true
   past : drop (informationAt kind s at) s ≡ rest
 
-addresses-back : (kind : ℕ) (o d s : List ℕ) (at : ℕ) (rest : List ℕ) → length o ≤ 20 → length d ≤ 20 → ((kind ≡ 2 → ⊥) → length o ≡ 0)
+addresses-back : (kind : ℕ) (o d s : List ℕ) (at : ℕ) (rest : List ℕ) → length o ≤ 20 → length d ≤ 20 → ((kind ≡ 2 → ⊥) → length o + length d ≡ 0)
     → drop at s ≡ addressesOctets kind o d ++ rest → AddressesBack kind o d s at rest
 addresses-back kind o d s at rest lo ld none = go (eqb kind 2) refl
   where
@@ -182,20 +183,16 @@ addresses-back kind o d s at rest lo ld none = go (eqb kind 2) refl
         let first = address-back o s at ((length d ∷ d) ++ rest) lo (e ∙ append-assoc (length o ∷ o) (length d ∷ d) rest) in
         let second = address-back d s (pastAddress s at) rest ld (first .past) in
         record {
-          size = simp t (first .size);
-          origin = simp t (first .octets);
-          destinationSize = λ k. second .size;
-          destination = λ k. second .octets;
+          origin = simp t (first .address);
+          destination = simp t (second .address);
           checks = simp t (both (addressChecks s at) (addressChecks s (pastAddress s at)) (first .checks) (second .checks));
           past = simp t (second .past);
         }
     go false t e =
-        let other = eqb-false kind 2 t in
+        let no = none (eqb-false kind 2 t) in
         record {
-          size = simp t (sym (none other));
-          origin = rw (empty o (none other));
-          destinationSize = λ k. absurd (other k);
-          destination = λ k. absurd (other k);
+          origin = simp t (rw (empty o (omega arith)));
+          destination = simp t (rw (empty d (omega arith)));
           checks = simp t;
           past = simp t e;
         }
@@ -219,7 +216,7 @@ pub record ReadsBack (r : List Entry) (s : List ℕ) (g : Heading) (o d info : L
   pub accepted : accepted (readingChecks r s) ≡ true
   pub heading : fieldsOf r s .heading ≡ g
   pub origin : addressAt s (fieldsOf r s .origin) ≡ addressOf o
-  pub destination : g .kind ≡ 2 → (octet s (pastAddress s (originAt s)) ≡ length d) × (take (length d) (drop (pastAddress s (originAt s) + 1) s) ≡ d)
+  pub destination : addressAt s (fieldsOf r s .destination) ≡ addressOf d
   pub information : drop (fieldsOf r s .information) s ≡ info
 
 -- a heading from its parts
@@ -257,7 +254,7 @@ module _ (r : List Entry) (g : Heading) (o d information : List ℕ) (w : Writab
       let last = last-accepted s (at2 s) (g .instruction) (sequenceOctets g ++ rest) (context .past) in
       let past2 = next s (at2 s) (128 + g .instruction) (sequenceOctets g ++ rest) (context .past) in
       let sequence = sequence-back g s (at3 s) rest (w .remaining) (w .alone) (w .apart) past2 in
-      let none : (g .kind ≡ 2 → ⊥) → length o ≡ 0 = λ other. omega (arith, w .unaddressed (omega (arith, w .registered, w .known, other))) in
+      let none : (g .kind ≡ 2 → ⊥) → length o + length d ≡ 0 = λ other. omega (arith, w .unaddressed (omega (arith, w .registered, w .known, other))) in
       let addresses = addresses-back (g .kind) o d s (originAt s) information (w .origin) (w .destination) none (sequence .past) in
       let four : List Check = 4 when ltb parameterMost (length s) ∷ [] in
       let cs : List Check = contextChecks r s in
@@ -269,8 +266,8 @@ module _ (r : List Entry) (g : Heading) (o d information : List ℕ) (w : Writab
       record {
         accepted = both (four ++ cs ++ ls ++ qs) _ three (rw kind (addresses .checks));
         heading = parts-equal _ _ _ _ _ _ _ _ _ _ _ _ (context .value) kind instruction (sequence .new) (sequence .remaining) (sequence .reference);
-        origin = rw (kind, addresses .size, addresses .origin);
-        destination = λ k. (addresses .destinationSize k, addresses .destination k);
+        origin = rw kind (addresses .origin);
+        destination = rw kind (addresses .destination);
         information = rw kind (addresses .past);
       }
 

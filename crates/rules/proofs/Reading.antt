@@ -11,17 +11,26 @@ use Rattle.rules.specs.General.{if_then_else_}
 use Rattle.rules.specs.Numbers.{parameterMost, addressMost, referenceMost}
 use Rattle.rules.specs.Refusals.{Check, _when_, accepted}
 use Rattle.rules.specs.Registry.{kindOf}
-use Rattle.rules.specs.Layout.{octet, has1a, has3a, isMissing, isUnsegmented, isNew, remainingOf, referenceOf, contextOf, at2, at3, originAt, hasAddresses, fieldsOf, lastChecks, secondChecks, contextChecks, sequenceChecks, addressesChecks, readingChecks}
+use Rattle.rules.specs.Layout.{octet, has1a, has3a, isMissing, isUnsegmented, isNew, remainingOf, referenceOf, contextOf, at2, at3, originAt, pastAddress, hasAddresses, fieldsOf, lastChecks, secondChecks, contextChecks, sequenceChecks, addressChecks, addressesChecks, readingChecks}
 use Rattle.rules.specs.declared.Entry.{Entry}
 use Rattle.rules.proofs.Refusals.{accepted-both, accepted-one}
 
--- the length octet, where there is one
-length-short : (s : List ℕ) (at : ℕ) (b : Bool) (kind : ℕ) → hasAddresses kind ≡ b → accepted (addressesChecks kind s at) ≡ true
-    → (if b then octet s at else 0) ≤ addressMost
-length-short s at true kind h e =
-    let all = simp and-eq-true-iff at (simp h at e) in
+-- a length octet that is accepted
+length-short : (s : List ℕ) (at : ℕ) → accepted (addressChecks s at) ≡ true → octet s at ≤ addressMost
+length-short s at e =
+    let all = simp and-eq-true-iff at e in
     ltb-false addressMost (octet s at) (not-true _ (all .1 .0))
-length-short s at false kind h e = omega arith
+
+-- both, where there are addresses
+pub record Short (b : Bool) (s : List ℕ) (at : ℕ) : Type 0 where
+  pub origin : (if b then octet s at else 0) ≤ addressMost
+  pub destination : (if b then octet s (pastAddress s at) else 0) ≤ addressMost
+
+both-short : (s : List ℕ) (at : ℕ) (b : Bool) (kind : ℕ) → hasAddresses kind ≡ b → accepted (addressesChecks kind s at) ≡ true → Short b s at
+both-short s at true kind h e =
+    let both = accepted-both (addressChecks s at) (addressChecks s (pastAddress s at)) (simp h at e) in
+    record { origin = length-short s at (both .0); destination = length-short s (pastAddress s at) (both .1) }
+both-short s at false kind h e = record { origin = omega arith; destination = omega arith }
 
 module _ (registry : List Entry) (s : List ℕ) (e : accepted (readingChecks registry s) ≡ true) where
   abbrev four : List Check
@@ -37,9 +46,16 @@ module _ (registry : List Entry) (s : List ℕ) (e : accepted (readingChecks reg
   pub parameter-short : length s ≤ parameterMost
   parameter-short = ltb-false parameterMost (length s) (not-true _ (and-eq-true-iff _ _ .0 (parts .0) .0))
 
+  addresses-short : Short (hasAddresses (kindOf registry (contextOf s))) s (originAt s)
+  addresses-short = both-short s (originAt s) (hasAddresses (kindOf registry (contextOf s))) (kindOf registry (contextOf s)) refl (parts .1)
+
   pub origin-short : fieldsOf registry s .origin .length ≤ addressMost
   unfolding fieldsOf
-  origin-short = length-short s (originAt s) (hasAddresses (kindOf registry (contextOf s))) (kindOf registry (contextOf s)) refl (parts .1)
+  origin-short = addresses-short .origin
+
+  pub destination-short : fieldsOf registry s .destination .length ≤ addressMost
+  unfolding fieldsOf
+  destination-short = addresses-short .destination
 
   sequence : (accepted (four ++ contextChecks registry s ++ lastChecks s (at2 s)) ≡ true) × (accepted (sequenceChecks s (at3 s)) ≡ true)
   sequence = accepted-both (four ++ contextChecks registry s ++ lastChecks s (at2 s)) (sequenceChecks s (at3 s)) (parts .0)

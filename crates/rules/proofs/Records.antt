@@ -1,23 +1,26 @@
--- A record's octets are 32 and read back as the record.
+-- A record's octets are 53 and read back as the record.
 use Prim.Native.Nat.{ℕ, _+_, _-_, _*_, _≤_, _<_, _^_}
-use mathlib.Core.Path.{_≡_, refl, _∙_}
-use mathlib.Core.List.{List, [], _∷_, _++_, append-assoc}
+use mathlib.Core.Path.{_≡_, refl, sym, ap, _∙_}
+use mathlib.Core.List.{List, [], _∷_, _++_, append-assoc, append-nil}
+use native.Mathlib.Nat.{add-zero}
 use native.Mathlib.Omega.{arith}
-use lib.ListN.{length, take, drop, replicate, length-append, length-take, length-replicate}
-use lib.Seq.{take-all, take-at, drop-at}
+use lib.ListN.{length, take, drop, getD, replicate, length-append, length-take, length-replicate}
+use lib.Seq.{take-at, drop-at, drop-drop, getD-drop}
+use Rattle.octets.specs.Number.{bigEndian}
 use Rattle.octets.specs.Splice.{splice}
 use Rattle.octets.proofs.Splice.{splice-is}
 use Rattle.octets.proofs.Number.{number-back}
 use Rattle.rules.specs.Numbers.{addressMost}
-use Rattle.rules.specs.Records.{recordLength, addressOf, Filled, recordOctets, recordFrom, recordsOctets, recordsFrom}
-use Rattle.rules.specs.Receiving.{addressAt}
+use Rattle.rules.specs.Records.{recordLength, addressOf, Filled, FilledKey, recorded, recordedAt, recordOctets, recordFrom, recordsOctets, recordsFrom}
+use Rattle.rules.specs.Receiving.{addressAt, keyOf}
 use Rattle.rules.specs.declared.Address.{Address}
 use Rattle.rules.specs.declared.Span.{Span}
+use Rattle.rules.specs.declared.Fields.{Fields}
 use Rattle.rules.specs.declared.Record.{Record}
 
--- what the types of a record's fields say: numbers of two octets, and an address of 20
+-- what the types of a record's fields say: numbers of two octets, and addresses of 20
 pub record Fits (r : Record) : Type 0 where
-  pub origin : Filled (r .key .origin)
+  pub addresses : FilledKey (r .key)
   pub association : r .key .association < 2 ^ 16
   pub context : r .key .context .0 < 2 ^ 16
   pub octets : r .octets < 2 ^ 16
@@ -29,15 +32,18 @@ filled-of o h = length-append o (replicate (addressMost - length o) 0) ∙ rw le
 pub filled-at : (s : List ℕ) (a : Span) → a .length ≤ addressMost → Filled (addressAt s a)
 filled-at s a h = filled-of (take (a .length) (drop (a .at) s)) (simp length-take (omega arith))
 
-pub record-length : (r : Record) → Filled (r .key .origin) → length (recordOctets r) ≡ recordLength
+pub filled-key : (association : ℕ) (s : List ℕ) (f : Fields) → f .origin .length ≤ addressMost → f .destination .length ≤ addressMost → FilledKey (keyOf association s f)
+filled-key association s f o d = record { origin = filled-at s (f .origin) o; destination = filled-at s (f .destination) d }
+
+pub record-length : (r : Record) → FilledKey (r .key) → length (recordOctets r) ≡ recordLength
 unfolding recordOctets
-record-length r h = rw h
+record-length r h = rw (length-append, h .origin, h .destination)
 
 -- a record from the parts that are more than an octet
-abbrev recordWith : Record → Address → ℕ → ℕ → ℕ → Record
-recordWith r o a c n =
+abbrev recordWith : Record → Address → Address → ℕ → ℕ → ℕ → Record
+recordWith r o d a c n =
     record {
-      key = record { association = a; context = record { 0 = c }; origin = o; reference = r .key .reference };
+      key = record { association = a; context = record { 0 = c }; origin = o; destination = d; reference = r .key .reference };
       octets = n;
       kind = r .kind;
       instruction = r .instruction;
@@ -45,18 +51,34 @@ recordWith r o a c n =
       segments = r .segments;
     }
 
-parts-equal : (r : Record) (o p : Address) (a b c d n m : ℕ) → o ≡ p → a ≡ b → c ≡ d → n ≡ m → recordWith r o a c n ≡ recordWith r p b d m
-parts-equal r o p a b c d n m e1 e2 e3 e4 = rw (e1, e2, e3, e4)
+parts-equal : (r : Record) (o p d e : Address) (a b c f n m : ℕ) → o ≡ p → d ≡ e → a ≡ b → c ≡ f → n ≡ m → recordWith r o d a c n ≡ recordWith r p e b f m
+parts-equal r o p d e a b c f n m e1 e2 e3 e4 e5 = rw (e1, e2, e3, e4, e5)
 
--- an address with octets that are its own
-octets-back : (a : Address) {l : List ℕ} → l ≡ a .octets → record { octets = l; length = a .length } ≡ a
-octets-back a e = rw e
+-- an address is read back from where it was written
+recorded-back : (before : List ℕ) (a : Address) (rest l : List ℕ) (n : ℕ) → length before ≡ n → Filled a → before ++ recorded a ++ rest ≡ l → recordedAt l n ≡ a
+recorded-back before a rest l n e h is =
+    let here : drop n l ≡ a .length ∷ (a .octets ++ rest) = rw (← is, append-assoc before (recorded a) rest) (drop-at before (recorded a ++ rest) n e) in
+    let next : drop (n + 1) l ≡ a .octets ++ rest = sym (drop-drop 1 n l) ∙ ap (drop 1) here in
+    let length-is : getD l n 0 ≡ a .length = rw add-zero at (sym (getD-drop n l 0 0)) ∙ ap (λ (l : List ℕ). getD l 0 0) here in
+    rw (length-is, next, take-at (a .octets) rest addressMost h)
+
+-- what stands before the addresses
+abbrev headOf : Record → List ℕ
+headOf r =
+    (r .kind ∷ [])
+    ++ bigEndian 2 (r .key .association)
+    ++ bigEndian 2 (r .key .context .0)
+    ++ (r .key .reference .0 ∷ r .instruction ∷ r .cause ∷ r .segments ∷ [])
+    ++ bigEndian 2 (r .octets)
 
 pub record-back : (r : Record) → Fits r → recordFrom (recordOctets r) ≡ r
 unfolding recordOctets recordFrom
 record-back r h =
-    parts-equal r _ _ _ _ _ _ _ _
-    (octets-back (r .key .origin) (take-all addressMost (r .key .origin .octets) (omega (arith, h .origin))))
+    let o : Address = r .key .origin in
+    let d : Address = r .key .destination in
+    parts-equal r _ o _ d _ _ _ _ _ _
+    (recorded-back (headOf r) o (recorded d) (recordOctets r) 11 refl (h .addresses .origin) refl)
+    (recorded-back (headOf r ++ recorded o) d [] (recordOctets r) 32 (rw (length-append, h .addresses .origin)) (h .addresses .destination) (append-nil (recordOctets r)))
     (number-back 2 (r .key .association) (h .association))
     (number-back 2 (r .key .context .0) (h .context))
     (number-back 2 (r .octets) (h .octets))
@@ -69,14 +91,14 @@ AllFit (r ∷ rs) = Fits r × AllFit rs
 pub records-length : (rs : List Record) → AllFit rs → length (recordsOctets rs) ≡ recordLength * length rs
 records-length [] h = refl
 records-length (r ∷ rs) h =
-    let e = record-length r (h .0 .origin) in
+    let e = record-length r (h .0 .addresses) in
     let i = records-length rs (h .1) in
     length-append (recordOctets r) (recordsOctets rs) ∙ omega arith
 
 from-octets : (rs : List Record) (rest : List ℕ) → AllFit rs → recordsFrom (length rs) (recordsOctets rs ++ rest) ≡ rs
 from-octets [] rest h = refl
 from-octets (r ∷ rs) rest h =
-    let e = record-length r (h .0 .origin) in
+    let e = record-length r (h .0 .addresses) in
     rw (append-assoc (recordOctets r) (recordsOctets rs) rest, take-at (recordOctets r) (recordsOctets rs ++ rest) recordLength e, drop-at (recordOctets r) (recordsOctets rs ++ rest) recordLength e, record-back r (h .0), from-octets rs rest (h .1))
 
 -- records at the front of an area that holds them are read back

@@ -6,10 +6,9 @@ use mathlib.Core.List.{List, [], _∷_}
 use native.Mathlib.Omega.{arith}
 use borrow.Author.Tests.{leb-true, leb-false, eqb-false, lt-ltb, le-ltb, not-true, not-false}
 use lib.Dec.{leb, ltb}
-use lib.ListN.{take}
 use Rattle.rules.specs.General.{if_then_else_}
 use Rattle.rules.specs.Refusals.{accepted}
-use Rattle.rules.specs.Layout.{octet, contextOf, at2, contextChecks, readingChecks, contextOctets}
+use Rattle.rules.specs.Layout.{octet, contextOf, contextPart, contextChecks, readingChecks, contextOctets}
 use Rattle.rules.specs.declared.Entry.{Entry}
 use Rattle.rules.proofs.Reading.{context-accepted}
 
@@ -31,12 +30,12 @@ shortest-two x y first last small upper =
 
 -- by the checks of the context
 by-context : (registry : List Entry) (s : List ℕ) → accepted (contextChecks registry s) ≡ true → octet s 0 < 256 → octet s 1 < 256
-    → take (at2 s) s ≡ contextOctets (contextOf s)
+    → contextPart s ≡ contextOctets (contextOf s)
 by-context registry [] e o1 o1a = absurd (true≢false (sym e))
 by-context registry (x ∷ rest) e o1 o1a = go (leb 128 x) refl rest e o1a
   where
     go : (b : Bool) → leb 128 x ≡ b → (rest : List ℕ) → accepted (contextChecks registry (x ∷ rest)) ≡ true → octet (x ∷ rest) 1 < 256
-        → take (at2 (x ∷ rest)) (x ∷ rest) ≡ contextOctets (contextOf (x ∷ rest))
+        → contextPart (x ∷ rest) ≡ contextOctets (contextOf (x ∷ rest))
     go true t rest e o1a = simp t (shortest-one x (leb-true _ _ t) o1)
     go false t [] e o1a = let c = simp (t, and-eq-true-iff) at e in absurd (true≢false (sym (c .1 .0)))
     go false t (y ∷ rest) e o1a =
@@ -46,10 +45,10 @@ by-context registry (x ∷ rest) e o1 o1a = go (leb 128 x) refl rest e o1a
 
 module _ (registry : List Entry) (s : List ℕ) (e : accepted (readingChecks registry s) ≡ true) (octet1 : octet s 0 < 256) (octet1a : octet s 1 < 256) where
   -- the context octets of an accepted parameter are those that we write ourselves
-  pub shortest : take (at2 s) s ≡ contextOctets (contextOf s)
+  pub shortest : contextPart s ≡ contextOctets (contextOf s)
   shortest = by-context registry s (context-accepted registry s e) octet1 octet1a
 
 -- whatever was registered when they were read
 pub equal-octets : (r r′ : List Entry) (s s′ : List ℕ) → accepted (readingChecks r s) ≡ true → accepted (readingChecks r′ s′) ≡ true
-    → octet s 0 < 256 → octet s 1 < 256 → octet s′ 0 < 256 → octet s′ 1 < 256 → contextOf s ≡ contextOf s′ → take (at2 s) s ≡ take (at2 s′) s′
+    → octet s 0 < 256 → octet s 1 < 256 → octet s′ 0 < 256 → octet s′ 1 < 256 → contextOf s ≡ contextOf s′ → contextPart s ≡ contextPart s′
 equal-octets r r′ s s′ e e′ o1 o1a o1′ o1a′ same = shortest r s e o1 o1a ∙ ap contextOctets same ∙ sym (shortest r′ s′ e′ o1′ o1a′)

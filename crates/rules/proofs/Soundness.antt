@@ -11,7 +11,7 @@ use Rattle.rules.specs.General.{if_then_else_, every, everyTwo}
 use Rattle.rules.specs.Numbers.{timerInRange, referenceMost, instructionMost, segmentsMost, dataMost, addressMost, elapsed}
 use Rattle.rules.specs.Registry.{kindOf, registrySound}
 use Rattle.rules.specs.Layout.{octet, hasAddresses, spanAt}
-use Rattle.rules.specs.Places.{freePlace}
+use Rattle.rules.specs.Places.{isOpen, freePlace}
 use Rattle.rules.specs.Soundness.{isZero, addressSound, openSound, freeSound, placeSound, placesApart, sound}
 use Rattle.rules.specs.Receiving.{addressAt}
 use Rattle.rules.specs.declared.Entry.{Entry}
@@ -47,6 +47,7 @@ pub record OpenPlace (registry : List Entry) (timer clock : ℕ) (p : Place) : T
   pub count : p .segments + p .remaining .0 ≤ segmentsMost
   pub octets : p .octets ≤ dataMost
   pub origin : addressSound (kindOf registry (p .key .context .0)) (p .key .origin) ≡ true
+  pub destination : addressSound (kindOf registry (p .key .context .0)) (p .key .destination) ≡ true
   pub young : elapsed clock (p .start) < timer
 
 module _ (registry : List Entry) (timer clock : ℕ) (p : Place) where
@@ -55,15 +56,16 @@ module _ (registry : List Entry) (timer clock : ℕ) (p : Place) where
   open-parts e =
       let all = simp and-eq-true-iff at e in
       record {
-        registered = eqb-false _ _ (not-true _ (all .0 .0 .0 .0 .0 .0 .0 .0 .0));
-        reference = leb-true _ _ (all .0 .0 .0 .0 .0 .0 .0 .0 .1);
-        instruction = leb-true _ _ (all .0 .0 .0 .0 .0 .0 .0 .1);
-        left = leb-true _ _ (all .0 .0 .0 .0 .0 .0 .1);
-        most = leb-true _ _ (all .0 .0 .0 .0 .0 .1);
-        begun = leb-true _ _ (all .0 .0 .0 .0 .1);
-        count = leb-true _ _ (all .0 .0 .0 .1);
-        octets = leb-true _ _ (all .0 .0 .1);
-        origin = all .0 .1;
+        registered = eqb-false _ _ (not-true _ (all .0 .0 .0 .0 .0 .0 .0 .0 .0 .0));
+        reference = leb-true _ _ (all .0 .0 .0 .0 .0 .0 .0 .0 .0 .1);
+        instruction = leb-true _ _ (all .0 .0 .0 .0 .0 .0 .0 .0 .1);
+        left = leb-true _ _ (all .0 .0 .0 .0 .0 .0 .0 .1);
+        most = leb-true _ _ (all .0 .0 .0 .0 .0 .0 .1);
+        begun = leb-true _ _ (all .0 .0 .0 .0 .0 .1);
+        count = leb-true _ _ (all .0 .0 .0 .0 .1);
+        octets = leb-true _ _ (all .0 .0 .0 .1);
+        origin = all .0 .0 .1;
+        destination = all .0 .1;
         young = ltb-true _ _ (all .1);
       }
 
@@ -80,12 +82,20 @@ module _ (registry : List Entry) (timer clock : ℕ) (p : Place) where
         le-leb _ _ (h .count),
         le-leb _ _ (h .octets),
         h .origin,
+        h .destination,
         lt-ltb _ _ (h .young),
       )
 
 pub free-sound : (registry : List Entry) (timer clock : ℕ) → placeSound registry timer clock freePlace ≡ true
 unfolding freeSound
 free-sound registry timer clock = refl
+
+-- a place of a sound table that is not open holds nothing
+pub free-holds : (registry : List Entry) (timer clock : ℕ) (p : Place) → placeSound registry timer clock p ≡ true → isOpen p ≡ false → (p .octets ≡ 0) × (p .segments ≡ 0)
+unfolding freeSound
+free-holds registry timer clock p e o =
+    let all = simp and-eq-true-iff at (simp o at e) in
+    (eqb-true _ _ (all .1 .0 .0 .0 .0 .0 .0 .1), eqb-true _ _ (all .1 .0 .0 .1))
 
 zeros : (n m : ℕ) → every isZero (drop n (replicate m 0)) ≡ true
 zeros zero zero = refl

@@ -65,6 +65,7 @@ young registry timer clock time p d s = go (isOpen p) refl
           count = old .count;
           octets = old .octets;
           origin = old .origin;
+          destination = old .destination;
           young = elapsed-less;
         }))
     go false o = simp o (simp o at s)

@@ -68,9 +68,9 @@ refusedWith n opened = record { refusal = n; records = []; delivered = []; opene
 abbrev saved : ℕ → Seen
 saved opened = refusedWith 0 opened
 
--- a record's octets up to its originating length, which is 0
+-- a record's octets before its addresses, which are empty: 2 lengths and 40 octets
 abbrev ended : List ℕ → List ℕ → Seen
-ended head delivered = record { refusal = 0; records = head ++ replicate 20 0; delivered = delivered; opened = 0 }
+ended head handed = record { refusal = 0; records = head ++ replicate 42 0; delivered = handed; opened = 0 }
 
 abbrev m3 : List ℕ
 m3 = 0x83 ∷ 0x81 ∷ 0x41 ∷ 0x85 ∷ 0xAA ∷ []
@@ -97,14 +97,14 @@ examples =
     -- M1 empty parameter: 5
     arrives ([] ∷ []) (refusedWith 5 0 ∷ [])
     -- M2: Delivered, 2 octets, 1 segment, reference 255
-    ∷ arrives ((0x83 ∷ 0x80 ∷ 0xC0 ∷ 0xAA ∷ 0xBB ∷ []) ∷ []) (ended (16 ∷ 0 ∷ 9 ∷ 0 ∷ 3 ∷ 255 ∷ 0 ∷ 0 ∷ 1 ∷ 0 ∷ 2 ∷ 0 ∷ []) (0xAA ∷ 0xBB ∷ []) ∷ [])
+    ∷ arrives ((0x83 ∷ 0x80 ∷ 0xC0 ∷ 0xAA ∷ 0xBB ∷ []) ∷ []) (ended (18 ∷ 0 ∷ 9 ∷ 0 ∷ 3 ∷ 255 ∷ 0 ∷ 0 ∷ 1 ∷ 0 ∷ 2 ∷ []) (0xAA ∷ 0xBB ∷ []) ∷ [])
     -- M3: Delivered AA BB, 2 segments, instruction 1
-    ∷ arrives (m3 ∷ m4 ∷ []) (saved 1 ∷ ended (16 ∷ 0 ∷ 9 ∷ 0 ∷ 3 ∷ 5 ∷ 1 ∷ 0 ∷ 2 ∷ 0 ∷ 2 ∷ 0 ∷ []) (0xAA ∷ 0xBB ∷ []) ∷ [])
+    ∷ arrives (m3 ∷ m4 ∷ []) (saved 1 ∷ ended (18 ∷ 0 ∷ 9 ∷ 0 ∷ 3 ∷ 5 ∷ 1 ∷ 0 ∷ 2 ∷ 0 ∷ 2 ∷ []) (0xAA ∷ 0xBB ∷ []) ∷ [])
     -- M4 the second alone: Lost, cause 1, 1 segment, 1 octet
-    ∷ arrives (m4 ∷ []) (ended (17 ∷ 0 ∷ 9 ∷ 0 ∷ 3 ∷ 5 ∷ 0 ∷ 1 ∷ 1 ∷ 0 ∷ 1 ∷ 0 ∷ []) [] ∷ [])
+    ∷ arrives (m4 ∷ []) (ended (19 ∷ 0 ∷ 9 ∷ 0 ∷ 3 ∷ 5 ∷ 0 ∷ 1 ∷ 1 ∷ 0 ∷ 1 ∷ []) [] ∷ [])
     -- M5: saved. M6: Lost, cause 4
     ∷ arrives ((0x83 ∷ 0x80 ∷ 0x49 ∷ 0x85 ∷ []) ∷ []) (saved 1 ∷ [])
-    ∷ arrives ((0x83 ∷ 0x80 ∷ 0x4A ∷ 0x85 ∷ []) ∷ []) (ended (17 ∷ 0 ∷ 9 ∷ 0 ∷ 3 ∷ 5 ∷ 0 ∷ 4 ∷ 1 ∷ 0 ∷ 0 ∷ 0 ∷ []) [] ∷ [])
+    ∷ arrives ((0x83 ∷ 0x80 ∷ 0x4A ∷ 0x85 ∷ []) ∷ []) (ended (19 ∷ 0 ∷ 9 ∷ 0 ∷ 3 ∷ 5 ∷ 0 ∷ 4 ∷ 1 ∷ 0 ∷ 0 ∷ []) [] ∷ [])
     -- M7: 7. M8: 7. M9: 6. M10: 8
     ∷ arrives ((0x83 ∷ 0x80 ∷ 0x40 ∷ 0x85 ∷ []) ∷ []) (refusedWith 7 0 ∷ [])
     ∷ arrives ((0x83 ∷ 0x80 ∷ 0xC1 ∷ []) ∷ []) (refusedWith 7 0 ∷ [])

@@ -3,7 +3,7 @@ use Prim.Native.Nat.{ℕ, _+_, _*_, _/_, _%_}
 use mathlib.Core.Bool.{Bool, not, _&&_, Bool·beq}
 use mathlib.Core.List.{List, [], _∷_, _++_}
 use lib.Dec.{eqb, leb, ltb}
-use lib.ListN.{length, getD}
+use lib.ListN.{length, take, getD}
 use Rattle.rules.specs.General.{if_then_else_}
 use Rattle.rules.specs.Numbers.{parameterMost, addressMost}
 use Rattle.rules.specs.Refusals.{Check, _when_}
@@ -33,6 +33,10 @@ at2 s = if has1a s then 2 else 1
 
 abbrev pub instructionOf : ℕ → ℕ
 instructionOf x = x % 4
+
+-- what stands before octet 2: the context's octets
+abbrev pub contextPart : List ℕ → List ℕ
+contextPart s = take (at2 s) s
 
 -- octet 3: bit 7 sequence indicator, 1 new; bits 6 to 1 segments remaining
 abbrev pub at3 : List ℕ → ℕ
@@ -94,6 +98,7 @@ fieldsAt g s at =
     record {
       heading = g;
       origin = spanAt (hasAddresses (g .kind)) s at;
+      destination = spanAt (hasAddresses (g .kind)) s (pastAddress s at);
       information = informationAt (g .kind) s at;
     }
 

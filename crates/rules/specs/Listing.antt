@@ -56,7 +56,7 @@ referenceWord reference = if eqb reference 255 then dash else decimal reference
 abbrev pub addressWord : Address → List ℕ
 addressWord a = if eqb (a .length) 0 then dash else hexOf (take (a .length) (a .octets))
 
--- a record with all its fields, behind a word: association, context, reference, instruction, cause, segments, octets, originating address
+-- a record with all its fields, behind a word: association, context, reference, instruction, cause, segments, octets, originating address, destination address
 unfoldable pub recordLine : List ℕ → Record → List ℕ
 recordLine word r =
     word
@@ -68,6 +68,7 @@ recordLine word r =
     ++ field (r .segments)
     ++ field (r .octets)
     ++ (32 ∷ addressWord (r .key .origin))
+    ++ (32 ∷ addressWord (r .key .destination))
     ++ (10 ∷ [])
 
 abbrev pub recordWord : ℕ → List ℕ

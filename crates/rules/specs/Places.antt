@@ -23,13 +23,14 @@ sameOctets (x ∷ xs) (y ∷ ys) = eqb x y && sameOctets xs ys
 unfoldable pub sameAddress : Address → Address → Bool
 sameAddress a b = eqb (a .length) (b .length) && sameOctets (a .octets) (b .octets)
 
--- a sequence's key is association, context, originating address and reference
+-- a sequence's key is association, context, originating address, destination address (document 02, A3) and reference
 unfoldable pub sameKey : Key → Key → Bool
 sameKey a b =
     eqb (a .association) (b .association)
     && eqb (a .context .0) (b .context .0)
     && eqb (a .reference .0) (b .reference .0)
     && sameAddress (a .origin) (b .origin)
+    && sameAddress (a .destination) (b .destination)
 
 -- a place's mark is 1 where a sequence is open and 0 where it is free
 abbrev pub isOpen : Place → Bool
@@ -41,14 +42,20 @@ isFree p = eqb (p .mark) 0
 abbrev pub holds : Key → Place → Bool
 holds k p = isOpen p && sameKey (p .key) k
 
--- a place with nothing in it and these octets for an address
+-- a place with nothing in it and these octets for each address
 abbrev zeroAddress : List ℕ → Address
 zeroAddress octets = record { octets = octets; length = 0 }
 
 abbrev zeroPlace : List ℕ → Place
 zeroPlace octets =
     record {
-      key = record { association = 0; context = record { 0 = 0 }; origin = zeroAddress octets; reference = record { 0 = 0 } };
+      key = record {
+        association = 0;
+        context = record { 0 = 0 };
+        origin = zeroAddress octets;
+        destination = zeroAddress octets;
+        reference = record { 0 = 0 };
+      };
       octets = 0;
       start = 0;
       mark = 0;

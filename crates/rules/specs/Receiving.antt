@@ -33,13 +33,14 @@ use Rattle.rules.specs.declared.Received.{Received}
 abbrev pub addressAt : List ℕ → Span → Address
 addressAt s a = record { octets = zeroFilled (take (a .length) (drop (a .at) s)); length = a .length }
 
--- a sequence's key is association, context, originating address and reference; the destination address is read and passed over
+-- a segment's key
 abbrev pub keyOf : ℕ → List ℕ → Fields → Key
 keyOf association s f =
     record {
       association = association;
       context = f .heading .context;
       origin = addressAt s (f .origin);
+      destination = addressAt s (f .destination);
       reference = f .heading .reference;
     }
 

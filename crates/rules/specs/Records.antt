@@ -1,4 +1,4 @@
--- Section 'Records and other house octets': Delivered is kind 16, Lost is kind 17. Numbers are most significant octet first.
+-- Section 'Records and other house octets': as document 02's A3 has it: Delivered is kind 18, Lost is kind 19. Numbers are most significant octet first.
 use Prim.Native.Nat.{ℕ, zero, suc, _+_, _-_}
 use mathlib.Core.Path.{_≡_}
 use mathlib.Core.List.{List, [], _∷_, _++_}
@@ -6,17 +6,18 @@ use lib.ListN.{length, take, drop, getD, replicate}
 use Rattle.octets.specs.Number.{number, bigEndian}
 use Rattle.rules.specs.Numbers.{addressMost}
 use Rattle.rules.specs.declared.Address.{Address}
+use Rattle.rules.specs.declared.Key.{Key}
 use Rattle.rules.specs.declared.Record.{Record}
 
 abbrev pub delivered : ℕ
-delivered = 16
+delivered = 18
 
 abbrev pub lost : ℕ
-lost = 17
+lost = 19
 
--- one kind octet and 31 octets
+-- one kind octet and 52 octets
 abbrev pub recordLength : ℕ
-recordLength = 32
+recordLength = 53
 
 -- octets as an address: zero filled, and with their length
 abbrev pub zeroFilled : List ℕ → List ℕ
@@ -29,6 +30,10 @@ addressOf octets = record { octets = zeroFilled octets; length = length octets }
 abbrev pub Filled : Address → Type 0
 Filled a = length (a .octets) ≡ addressMost
 
+pub record FilledKey (k : Key) : Type 0 where
+  pub origin : Filled (k .origin)
+  pub destination : Filled (k .destination)
+
 -- an address in a record: length 1, octets 20; and the one that begins at a position
 abbrev pub recorded : Address → List ℕ
 recorded a = a .length ∷ a .octets
@@ -36,7 +41,7 @@ recorded a = a .length ∷ a .octets
 abbrev pub recordedAt : List ℕ → ℕ → Address
 recordedAt l at = record { octets = take addressMost (drop (at + 1) l); length = getD l at 0 }
 
--- kind 1; association 2, context 2, reference 1, instruction 1, cause 1, segments 1, octets 2, originating address
+-- kind 1; association 2, context 2, reference 1, instruction 1, cause 1, segments 1, octets 2, originating address, destination address
 unfoldable pub recordOctets : Record → List ℕ
 recordOctets r =
     (r .kind ∷ [])
@@ -45,8 +50,9 @@ recordOctets r =
     ++ (r .key .reference .0 ∷ r .instruction ∷ r .cause ∷ r .segments ∷ [])
     ++ bigEndian 2 (r .octets)
     ++ recorded (r .key .origin)
+    ++ recorded (r .key .destination)
 
--- the record that 32 octets are
+-- the record that so many octets are
 unfoldable pub recordFrom : List ℕ → Record
 recordFrom l =
     record {
@@ -54,6 +60,7 @@ recordFrom l =
         association = number (getD l 1 0 ∷ getD l 2 0 ∷ []);
         context = record { 0 = number (getD l 3 0 ∷ getD l 4 0 ∷ []) };
         origin = recordedAt l 11;
+        destination = recordedAt l 32;
         reference = record { 0 = getD l 5 0 };
       };
       octets = number (getD l 9 0 ∷ getD l 10 0 ∷ []);

@@ -28,7 +28,7 @@ abbrev pub addressZero : Address → Bool
 addressZero a = isZero (a .length) && every isZero (a .octets)
 
 -- each open place has a registered context, reference to 127, instruction to 3, remaining 1 to 9, at least one segment, segments plus remaining at
--- most 10, octets to 2,048, address as above, age below T
+-- most 10, octets to 2,048, both addresses as above, age below T
 unfoldable pub openSound : List Entry → ℕ → ℕ → Place → Bool
 openSound registry timer clock p =
     not (eqb (kindOf registry (p .key .context .0)) 0)
@@ -40,6 +40,7 @@ openSound registry timer clock p =
     && leb (p .segments + p .remaining .0) segmentsMost
     && leb (p .octets) dataMost
     && addressSound (kindOf registry (p .key .context .0)) (p .key .origin)
+    && addressSound (kindOf registry (p .key .context .0)) (p .key .destination)
     && ltb (elapsed clock (p .start)) timer
 
 -- free places are all zero
@@ -54,6 +55,7 @@ freeSound p =
     && isZero (p .remaining .0)
     && isZero (p .segments)
     && addressZero (p .key .origin)
+    && addressZero (p .key .destination)
 
 abbrev pub placeSound : List Entry → ℕ → ℕ → Place → Bool
 placeSound registry timer clock p = (isOpen p && openSound registry timer clock p) || (isFree p && freeSound p)

@@ -8,7 +8,7 @@ pub const STRETCH: usize = 2048;
 
 pub const STORE: usize = PLACES * STRETCH;
 
-pub const RECORD: usize = 32;
+pub const RECORD: usize = 53;
 
 pub const REPORT: usize = PLACES * RECORD;
 
@@ -17,6 +17,11 @@ pub const DATA: usize = 2048;
 pub const PARAMETER: usize = 255;
 
 pub const ADDRESS: usize = 20;
+
+// The kinds of a record: Delivered and Lost.
+pub const DELIVERED: u8 = 18;
+
+pub const LOST: u8 = 19;
 
 // A summary: so many rows, so many numbers in all, and the most that a total may become.
 pub const ROWS: usize = 64;
@@ -48,6 +53,7 @@ pub struct Key {
     pub association: u16,
     pub context: Context,
     pub origin: Address,
+    pub destination: Address,
     pub reference: Reference,
 }
 
@@ -79,7 +85,7 @@ pub struct Table {
     pub clock: u32,
 }
 
-// What is made of a delivery (kind 16) or a loss (kind 17). Reference 255 is an unsegmented parameter.
+// What is made of a delivery or a loss. Reference 255 is an unsegmented parameter.
 pub struct Record {
     pub key: Key,
     pub octets: u16,
@@ -109,6 +115,7 @@ pub struct Span {
 pub struct Fields {
     pub heading: Heading,
     pub origin: Span,
+    pub destination: Span,
     pub information: usize,
 }
 

@@ -9,7 +9,7 @@ use Rattle.rules.specs.Soundness.{placesApart}
 use Rattle.rules.specs.declared.Place.{Place}
 use Rattle.rules.proofs.Keys.{same-equal}
 use Rattle.sound_open.specs.Digest.{digest}
-use Rattle.sound.specs.Digest.{isOther}
+use Rattle.sound_rows.specs.Listing.{isOther}
 
 same-digest : (p q : Place) → sameKey (p .key) (q .key) ≡ true → isOther (digest p) (digest q) ≡ false
 same-digest p q e =

@@ -7,7 +7,7 @@ ghost use Prim.Native.Nat.{_≤_};
 ghost use lib.ListN.{take, drop};
 ghost use Rattle.rules.specs.General.{every, everyTwo, those};
 ghost use Rattle.rules.specs.Places.{isOpen};
-ghost use Rattle.sound.specs.Digest.{isOther};
+ghost use Rattle.sound_rows.specs.Listing.{isOther};
 ghost use Rattle.sound.specs.Seated.{associationOf};
 ghost use Rattle.rules.specs.Summary.{summarySound};
 ghost use Rattle.rules.specs.Soundness.{placesApart, sound};

@@ -56,39 +56,41 @@ module _ (a : List ℕ) where
       (simp (and-true, and-assoc))
 
 -- the numbers of a place, in the order of the sum and in that of the rules
-in-order : (association context reference octets start mark instruction remaining segments origin : Bool)
-    → ((association && context) && (reference && octets) && start && (mark && instruction && remaining && segments) && origin)
-    ≡ (mark && (association && context && reference && octets && start && instruction && remaining && segments && origin))
-in-order false c r o s m i n k x = sym (and-false m)
-in-order true false r o s m i n k x = sym (and-false m)
-in-order true true false o s m i n k x = sym (and-false m)
-in-order true true true false s m i n k x = sym (and-false m)
-in-order true true true true false m i n k x = sym (and-false m)
-in-order true true true true true false i n k x = refl
-in-order true true true true true true i n k x = refl
+in-order : (association context reference octets start mark instruction remaining segments origin destination : Bool)
+    → ((association && context) && (reference && octets) && start && (mark && instruction && remaining && segments) && origin && destination)
+    ≡ (mark && (association && context && reference && octets && start && instruction && remaining && segments && origin && destination))
+in-order false c r o s m i n k x y = sym (and-false m)
+in-order true false r o s m i n k x y = sym (and-false m)
+in-order true true false o s m i n k x y = sym (and-false m)
+in-order true true true false s m i n k x y = sym (and-false m)
+in-order true true true true false m i n k x y = sym (and-false m)
+in-order true true true true true false i n k x y = refl
+in-order true true true true true true i n k x y = refl
 
 -- an address, with a weight w for its octets
 pub address-nought : (a : Address) (w : ℕ) → eqb w 0 ≡ every isZero (a .octets) → eqb (a .length + w) 0 ≡ addressZero a
 address-nought a w e = sum-nought (a .length) w ∙ rw e
 
--- what a place weighs, with a weight o for its origin and w for its word
-pub weight-nought : (p : Place) (o w : ℕ) → eqb o 0 ≡ addressZero (p .key .origin)
+-- what a place weighs, with weights o and d for its addresses and w for its word
+pub weight-nought : (p : Place) (o d w : ℕ) → eqb o 0 ≡ addressZero (p .key .origin) → eqb d 0 ≡ addressZero (p .key .destination)
     → eqb w 0 ≡ (isFree p && isZero (p .instruction) && isZero (p .remaining .0) && isZero (p .segments))
     → eqb
     (p .key .association + 65536 * p .key .context .0
     + (p .key .reference .0 + 65536 * p .octets)
     + p .start
     + w
-    + o)
+    + o
+    + d)
     0
     ≡ (isFree p && freeSound p)
 unfolding freeSound
-weight-nought p o w eo ew =
+weight-nought p o d w eo ed ew =
     simp (
       sum-nought,
       times-nought 65536 (p .key .context .0) (omega arith),
       times-nought 65536 (p .octets) (omega arith),
       eo,
+      ed,
       ew,
     )
     (in-order
@@ -101,4 +103,5 @@ weight-nought p o w eo ew =
     (isZero (p .instruction))
     (isZero (p .remaining .0))
     (isZero (p .segments))
-    (addressZero (p .key .origin)))
+    (addressZero (p .key .origin))
+    (addressZero (p .key .destination)))

@@ -9,9 +9,9 @@ wordOf a b c d = a + 256 * b + 65536 * c + 16777216 * d
 abbrev pub wordMost : ℕ
 wordMost = 4294967295
 
--- the most that an address weighs, and a place: six numbers of four octets, and ten
+-- the most that an address weighs, and a place: six numbers of four octets, and sixteen
 abbrev pub addressMost : ℕ
 addressMost = 6 * wordMost
 
 abbrev pub placeMost : ℕ
-placeMost = 10 * wordMost
+placeMost = 16 * wordMost

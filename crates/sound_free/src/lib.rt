@@ -1,5 +1,5 @@
 // Whether the places that are not open are sound: by weights. The weight of a place is the sum of all its octets and numbers, read as numbers of four octets, so it is 0 exactly
-// where all of them are. A place has ten such numbers at most, each below 2^32, so the sum of 16 places' weights is below 2^40 and cannot wrap.
+// where all of them are. A place has sixteen such numbers at most, each below 2^32, so the sum of 16 places' weights is below 2^40 and cannot wrap.
 use rules::Address;
 use rules::Place;
 ghost use mathlib.Core.Path.{_≡_};
@@ -48,10 +48,12 @@ fn weight(p: Place) -> u64
     ensures { λ r. ⌜ r ≤ placeMost ⌝ }
 {
     let origin = p.key.origin;
+    let destination = p.key.destination;
     let names = (p.key.association as u64) + 65536 * (p.key.context.0 as u64);
     let more = (p.key.reference.0 as u64) + 65536 * (p.octets as u64);
     let rest = word(p.mark, p.instruction, p.remaining.0, p.segments);
-    names + more + (p.start as u64) + rest + address_weight(origin)
+    let numbers = names + more + (p.start as u64) + rest;
+    numbers + address_weight(origin) + address_weight(destination)
 }
 
 // What a place weighs where it is not open.

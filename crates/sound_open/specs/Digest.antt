@@ -4,4 +4,5 @@ use Rattle.rules.specs.declared.Place.{Place}
 
 -- of the key all but the octets of an address
 abbrev pub digest : Place → ℕ
-digest p = (p .key .association * 65536 + p .key .context .0) * 65536 + (p .key .reference .0 * 256 + p .key .origin .length)
+digest p =
+    ((p .key .association * 65536 + p .key .context .0) * 256 + p .key .reference .0) * 65536 + (p .key .origin .length * 256 + p .key .destination .length)

@@ -76,9 +76,11 @@ fn open_sound(registry: [Entry; 8], timer: u32, clock: u32, p: Place) -> bool
         & (sum <= 10)
         & (p.octets <= 2048);
     let origin = p.key.origin;
-    let addressed = address_sound(kind, origin);
+    let destination = p.key.destination;
+    let from = address_sound(kind, origin);
+    let to = address_sound(kind, destination);
     let young = table::elapsed(clock, p.start) < timer;
-    numbers & addressed & young
+    numbers & from & to & young
 }
 
 // What is seen of the open places: their digests, one after the other, and whether each is sound.
@@ -93,8 +95,8 @@ fn digest_of(p: Place) -> u64
     ensures { λ r. ⌜ r ≡ digest p ⌝ }
 {
     let names = (p.key.association as u64) * 65536 + (p.key.context.0 as u64);
-    let rest = (p.key.reference.0 as u64) * 256 + (p.key.origin.length as u64);
-    names * 65536 + rest
+    let lengths = (p.key.origin.length as u64) * 256 + (p.key.destination.length as u64);
+    (names * 256 + (p.key.reference.0 as u64)) * 65536 + lengths
 }
 
 // The open places in one go.

@@ -55,7 +55,9 @@ pub fn same_key(a: Key, b: Key) -> bool
     if numbers {
         let x = a.origin;
         let y = b.origin;
-        return same_address(x, y);
+        let u = a.destination;
+        let v = b.destination;
+        return same_address(x, y) & same_address(u, v);
     }
     false
 }
@@ -156,6 +158,10 @@ pub fn free_place() -> Place
             association: 0,
             context: Context(0),
             origin: Address {
+                octets: [0; 20],
+                length: 0,
+            },
+            destination: Address {
                 octets: [0; 20],
                 length: 0,
             },

@@ -4,7 +4,8 @@ ghost use mathlib.Core.List.{[], _∷_};
 ghost use Prim.Native.Nat.{ℕ, _+_, _*_, _≤_, _<_};
 ghost use lib.ListN.{length, take, drop};
 ghost use Rattle.octets.specs.Splice.{Wrote};
-ghost use Rattle.rules.specs.Records.{recordFrom, recordsFrom};
+ghost use Rattle.rules.specs.Records.{recordLength, recordFrom, recordsFrom};
+ghost use Rattle.rules.specs.Sweep.{reportLeast};
 ghost use Rattle.rules.specs.Lines.{decimal, field, octetsOf, stopIf};
 ghost use Rattle.trace_lines.specs.Digits.{Left};
 ghost use Rattle.trace_lines.specs.Printing.{nameFor, fieldsFor, lineFor};
@@ -105,7 +106,7 @@ pub fn put_word(out: &mut [u8], at: usize, word: &[u8]) -> usize
 
 // The octets of a kind's records among the first n of a report.
 fn total(report: &[u8], n: usize, kind: u8) -> u64
-    requires { ⌜ (n ≤ 16) × (32 * n ≤ length (now report)) ⌝ }
+    requires { ⌜ (n ≤ 16) × (recordLength * n ≤ length (now report)) ⌝ }
     ensures { λ r. ⌜ r ≡ octetsOf kind (recordsFrom n (now (report .entry))) ⌝ }
 {
     let mut sum = 0;
@@ -119,8 +120,8 @@ fn total(report: &[u8], n: usize, kind: u8) -> u64
 
 // The octets of the record that begins at an index, where it is of a kind.
 fn octets_in(report: &[u8], at: usize, kind: u8) -> u64
-    requires { ⌜ (at ≤ 480) × (at + 32 ≤ length (now report)) ⌝ }
-    ensures { λ r. ⌜ r ≡ octetsOf kind (recordFrom (take 32 (drop at (now (report .entry)))) ∷ []) ⌝ }
+    requires { ⌜ (at ≤ reportLeast) × (at + recordLength ≤ length (now report)) ⌝ }
+    ensures { λ r. ⌜ r ≡ octetsOf kind (recordFrom (take recordLength (drop at (now (report .entry)))) ∷ []) ⌝ }
     ensures { λ r. ⌜ r ≤ 65535 ⌝ }
 {
     if report[at] != kind {
@@ -131,13 +132,13 @@ fn octets_in(report: &[u8], at: usize, kind: u8) -> u64
 
 // An event's fields: its name, its refusal, and of the records that it made how many there are and their octets, delivered and lost.
 pub fn put_fields(out: &mut [u8], kind: u8, refusal: u8, records: u8, report: &[u8]) -> usize
-    requires { ⌜ (records ≤ 16) × (32 * records ≤ length (now report)) ⌝ }
+    requires { ⌜ (records ≤ 16) × (recordLength * records ≤ length (now report)) ⌝ }
     ensures { λ r. ⌜ Wrote (now (out .entry)) 0 (fieldsFor kind refusal records (now (report .entry))) (now (out .exit)) r ⌝ }
     ensures { λ r. ⌜ r ≤ 91 ⌝ }
 {
     let n = records as usize;
-    let gained = total(report, n, 16);
-    let missed = total(report, n, 17);
+    let gained = total(report, n, rules::DELIVERED);
+    let missed = total(report, n, rules::LOST);
     let a = put_name(out, kind);
     let b = put_field(out, a, refusal as u64);
     let c = put_field(out, b, records as u64);
@@ -147,7 +148,7 @@ pub fn put_fields(out: &mut [u8], kind: u8, refusal: u8, records: u8, report: &[
 
 // An event's line.
 pub fn put_line(out: &mut [u8], kind: u8, refusal: u8, records: u8, report: &[u8]) -> usize
-    requires { ⌜ (records ≤ 16) × (32 * records ≤ length (now report)) ⌝ }
+    requires { ⌜ (records ≤ 16) × (recordLength * records ≤ length (now report)) ⌝ }
     ensures { λ r. ⌜ Wrote (now (out .entry)) 0 (lineFor kind refusal records (now (report .entry))) (now (out .exit)) r ⌝ }
     ensures { λ r. ⌜ r ≤ 92 ⌝ }
 {

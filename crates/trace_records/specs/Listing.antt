@@ -13,7 +13,11 @@ use Rattle.rules.specs.declared.Record.{Record}
 use Rattle.trace_lines.specs.Printing.{fieldsFor}
 use Rattle.trace_items.specs.declared.Happening.{Happening}
 
--- a record's line, as it is written: what names the sequence, what is said of it, the originating address
+-- the longest line of a record
+abbrev pub lineMost : ℕ
+lineMost = 239
+
+-- a record's line, as it is written: what names the sequence, what is said of it; behind them the addresses
 abbrev pub namedFields : List ℕ → Key → List ℕ
 namedFields word k = word ++ field (k .association) ++ field (k .context .0) ++ (32 ∷ referenceWord (k .reference .0))
 

@@ -12,11 +12,12 @@ ghost use mathlib.Core.List.{[], _∷_};
 ghost use Prim.Native.Nat.{_+_, _*_, _≤_};
 ghost use lib.ListN.{length, take, drop};
 ghost use Rattle.octets.specs.Splice.{Wrote};
+ghost use Rattle.rules.specs.Numbers.{placeCount};
 ghost use Rattle.rules.specs.Places.{isOpen};
 ghost use Rattle.rules.specs.Records.{recordLength, recordedAt, recordFrom, recordsFrom};
-ghost use Rattle.rules.specs.Sweep.{lossOf};
+ghost use Rattle.rules.specs.Sweep.{lossOf, reportLeast};
 ghost use Rattle.rules.specs.Listing.{hexDigit, hexOf, referenceWord, addressWord, recordLine, recordWord, recordLines, openLines, endWord, heldWord};
-ghost use Rattle.trace_records.specs.Listing.{namedFields, countFields, lineFor, listingFor, endFor};
+ghost use Rattle.trace_records.specs.Listing.{lineMost, namedFields, countFields, lineFor, listingFor, endFor};
 
 // The address that a record has at a position.
 fn address_in(l: &[u8], at: usize) -> Address
@@ -31,16 +32,18 @@ fn address_in(l: &[u8], at: usize) -> Address
     }
 }
 
-// The record that 32 octets are.
+// The record that so many octets are.
 fn record_of(l: &[u8]) -> Record
     requires { ⌜ length (now l) ≡ recordLength ⌝ }
     ensures { λ r. ⌜ r ≡ recordFrom (now (l .entry)) ⌝ }
 {
     let origin = address_in(l, 11);
+    let destination = address_in(l, 32);
     let key = Key {
         association: octets::number2(l[1], l[2]),
         context: Context(octets::number2(l[3], l[4])),
         origin,
+        destination,
         reference: Reference(l[5]),
     };
     Record {
@@ -144,24 +147,26 @@ fn put_counts(out: &mut [u8], at: usize, r: Record) -> usize
 fn put_record(out: &mut [u8], at: usize, word: &[u8], r: Record) -> usize
     requires { ⌜ (at ≤ 10000) × (length (now word) ≤ 9) ⌝ }
     ensures { λ n. ⌜ Wrote (now (out .entry)) at (recordLine (now (word .entry)) r) (now (out .exit)) n ⌝ }
-    ensures { λ n. ⌜ n ≤ at + 198 ⌝ }
+    ensures { λ n. ⌜ n ≤ at + lineMost ⌝ }
 {
     let key = r.key;
     let a = put_named(out, at, word, key);
     let b = put_counts(out, a, r);
     let origin = key.origin;
     let c = put_address(out, b, origin);
-    trace_lines::put_octet(out, c, 10)
+    let destination = key.destination;
+    let d = put_address(out, c, destination);
+    trace_lines::put_octet(out, d, 10)
 }
 
 // The line of the record that begins at an index of a report.
 fn put_told(out: &mut [u8], at: usize, report: &[u8], from: usize) -> usize
-    requires { ⌜ (at ≤ 10000) × ((from ≤ 480) × (from + 32 ≤ length (now report))) ⌝ }
-    ensures { λ n. ⌜ Wrote (now (out .entry)) at (recordLines (recordFrom (take 32 (drop from (now (report .entry)))) ∷ [])) (now (out .exit)) n ⌝ }
-    ensures { λ n. ⌜ n ≤ at + 198 ⌝ }
+    requires { ⌜ (at ≤ 10000) × ((from ≤ reportLeast) × (from + recordLength ≤ length (now report))) ⌝ }
+    ensures { λ n. ⌜ Wrote (now (out .entry)) at (recordLines (recordFrom (take recordLength (drop from (now (report .entry)))) ∷ [])) (now (out .exit)) n ⌝ }
+    ensures { λ n. ⌜ n ≤ at + lineMost ⌝ }
 {
     let r = record_of(octets::part(report, from, rules::RECORD));
-    if r.kind == 16 {
+    if r.kind == rules::DELIVERED {
         return put_record(out, at, b"delivered", r);
     }
     put_record(out, at, b"lost", r)
@@ -169,9 +174,9 @@ fn put_told(out: &mut [u8], at: usize, report: &[u8], from: usize) -> usize
 
 // The lines of the first n records of a report.
 fn put_records(out: &mut [u8], at: usize, report: &[u8], n: usize) -> usize
-    requires { ⌜ (at ≤ 1000) × ((n ≤ 16) × (32 * n ≤ length (now report))) ⌝ }
+    requires { ⌜ (at ≤ 1000) × ((n ≤ 16) × (recordLength * n ≤ length (now report))) ⌝ }
     ensures { λ r. ⌜ Wrote (now (out .entry)) at (recordLines (recordsFrom n (now (report .entry)))) (now (out .exit)) r ⌝ }
-    ensures { λ r. ⌜ r ≤ at + 198 * n ⌝ }
+    ensures { λ r. ⌜ r ≤ at + lineMost * n ⌝ }
 {
     let mut next = at;
     let mut i = 0;
@@ -186,7 +191,7 @@ fn put_records(out: &mut [u8], at: usize, report: &[u8], n: usize) -> usize
 fn put_place(out: &mut [u8], at: usize, word: &[u8], p: Place) -> usize
     requires { ⌜ (at ≤ 10000) × (length (now word) ≤ 9) ⌝ }
     ensures { λ n. ⌜ Wrote (now (out .entry)) at (openLines (now (word .entry)) (p ∷ [])) (now (out .exit)) n ⌝ }
-    ensures { λ n. ⌜ n ≤ at + 198 ⌝ }
+    ensures { λ n. ⌜ n ≤ at + lineMost ⌝ }
 {
     if p.mark != 1 {
         return at;
@@ -195,7 +200,7 @@ fn put_place(out: &mut [u8], at: usize, word: &[u8], p: Place) -> usize
     let r = Record {
         key,
         octets: p.octets,
-        kind: 17,
+        kind: rules::LOST,
         instruction: p.instruction,
         cause: 0,
         segments: p.segments,
@@ -207,7 +212,7 @@ fn put_place(out: &mut [u8], at: usize, word: &[u8], p: Place) -> usize
 fn put_open(out: &mut [u8], at: usize, word: &[u8], places: [Place; 16]) -> usize
     requires { ⌜ (at ≤ 5000) × (length (now word) ≤ 9) ⌝ }
     ensures { λ r. ⌜ Wrote (now (out .entry)) at (openLines (now (word .entry)) places) (now (out .exit)) r ⌝ }
-    ensures { λ r. ⌜ r ≤ at + 3168 ⌝ }
+    ensures { λ r. ⌜ r ≤ at + lineMost * placeCount ⌝ }
 {
     let mut next = at;
     let mut i = 0;
@@ -242,7 +247,7 @@ fn put_decision(out: &mut [u8], at: usize, refusal: u8, decision: Decision) -> u
 
 // An event's line, with its number.
 fn put_line(out: &mut [u8], number: u64, h: Happening, report: &[u8]) -> usize
-    requires { ⌜ (h .records ≤ 16) × (32 * h .records ≤ length (now report)) ⌝ }
+    requires { ⌜ (h .records ≤ 16) × (recordLength * h .records ≤ length (now report)) ⌝ }
     ensures { λ r. ⌜ Wrote (now (out .entry)) 0 (lineFor number h (now (report .entry))) (now (out .exit)) r ⌝ }
     ensures { λ r. ⌜ r ≤ 142 ⌝ }
 {
@@ -262,7 +267,7 @@ pub fn put_event(
     report: &[u8],
     places: [Place; 16],
 ) -> usize
-    requires { ⌜ (h .records ≤ 16) × (32 * h .records ≤ length (now report)) ⌝ }
+    requires { ⌜ (h .records ≤ 16) × (recordLength * h .records ≤ length (now report)) ⌝ }
     ensures { λ r. ⌜ Wrote (now (out .entry)) 0 (listingFor number h (now (report .entry)) places) (now (out .exit)) r ⌝ }
     ensures { λ r. ⌜ r ≤ 8000 ⌝ }
 {

@@ -33,15 +33,15 @@ fn fresh(m: &mut [u64; rules::SUMMARY], clock: u32) -> Table {
     r.table
 }
 
-// A segment: its refusal, its records, the first 12 octets of its record, and how many octets it delivers, with the first of them.
+// A segment: its refusal, its records, its record, and how many octets it delivers, with the first of them.
 fn segment(t: Table, m: &mut [u64; rules::SUMMARY], store: &mut [u8], s: &[u8]) -> Table {
-    let mut report = [0u8; 32];
+    let mut report = [0u8; rules::RECORD];
     let r = receiver::segment(t, m, store, &mut report, 9, s);
     io::write_all(STDOUT_FILENO, b"segment");
     number(r.refusal as u64);
     number(r.records as u64);
     if r.records == 1 {
-        octets(octets::part(&report, 0, 12));
+        octets(octets::part(&report, 0, rules::RECORD));
     }
     let decision = r.decision;
     let part = receiver::delivery(decision, s, store);
@@ -69,15 +69,15 @@ fn two(name: &[u8], s: &[u8], u: &[u8]) {
     segment(t, &mut m, &mut store, u);
 }
 
-// The clock: its refusal, its records, and the cause of the first.
+// The clock: its refusal, its records, and the first of them where it is the only one.
 fn clock(t: Table, m: &mut [u64; rules::SUMMARY], time: u32) -> Table {
-    let mut report = [0u8; 512];
+    let mut report = [0u8; rules::REPORT];
     let r = receiver::clock(t, m, &mut report, time);
     io::write_all(STDOUT_FILENO, b"clock");
     number(r.refusal as u64);
     number(r.records as u64);
     if r.records == 1 {
-        octets(octets::part(&report, 0, 12));
+        octets(octets::part(&report, 0, rules::RECORD));
     }
     io::write_all(STDOUT_FILENO, b"\n");
     r.table
@@ -137,6 +137,15 @@ fn timed() {
     clock(w, &mut m, 4);
 }
 
+// Document 02, A3: first segments to 00 07 and to 07; a last segment to the same, and to another; one that is not segmented.
+fn exchanges() {
+    let first = b"\x84\x80\x41\x85\x00\x02\x00\x07\xAA";
+    two(b"A3 ", first, b"\x84\x80\x41\x85\x00\x01\x07\xBB");
+    two(b"A3 ", first, b"\x84\x80\x00\x85\x00\x02\x00\x07\xBB");
+    two(b"A3 ", first, b"\x84\x80\x00\x85\x00\x01\x07\xBB");
+    alone(b"A3 ", b"\x84\x80\xC0\x01\x09\x02\x07\x00\xAA");
+}
+
 fn main() {
     alone(b"M1 ", b"");
     alone(b"M2 ", b"\x83\x80\xC0\xAA\xBB");
@@ -154,6 +163,7 @@ fn main() {
         b"\x84\x80\x41\x85\x01\x07\x00\xBB",
     );
     alone(b"M12 ", b"\x03\x80\x80\xC0\xAA");
+    exchanges();
     sending(b"\x01\x02\x03\x04\x05", 8, 8, 0);
     sending(b"\x01\x02\x03\x04\x05", 7, 7, 0);
     sending(b"\x01\x02\x03\x04\x05", 7, 7, 1);

@@ -7,11 +7,11 @@ use borrow.Author.Needs.{needs}
 use Rattle.demanded.proofs.c_segment.Statement.{statement}
 use Rattle.demanded.proofs.c_segment.Tie as tie
 
-egrynnol-2-segment-requires : tie.Need-egrynnol-2-segment-requires
-egrynnol-2-segment-requires c κs = search needs
+egrynnol-3-segment-requires : tie.Need-egrynnol-3-segment-requires
+egrynnol-3-segment-requires c κs = search needs
 
-egrynnol-2-delivery-requires : tie.Need-egrynnol-2-delivery-requires
-egrynnol-2-delivery-requires c κs = search needs
+egrynnol-3-delivery-requires : tie.Need-egrynnol-3-delivery-requires
+egrynnol-3-delivery-requires c κs = search needs
 
 same-length : tie.Need-same-length
 same-length c = search needs
@@ -25,7 +25,7 @@ returns c =
     let s = g .before .before .before .before .before .before .before in
     let a = s .args in
     of-c-segment (a .t) (now (a .m)) (now (a .store)) (now (a .report)) (a .association) (now (a .s)) _ _ _ _ (owned (a .t) (s .good .0)) (omega (arith, s .fits))
-    (g .egrynnol-2-segment .ensures) (c .egrynnol-2-delivery .ensures)
+    (g .egrynnol-3-segment .ensures) (c .egrynnol-3-delivery .ensures)
 
 pub c-segment-spec : {M : Type 1} → statement M
-c-segment-spec = tie.close (tie.spec egrynnol-2-segment-requires egrynnol-2-delivery-requires same-length same-length-2 returns)
+c-segment-spec = tie.close (tie.spec egrynnol-3-segment-requires egrynnol-3-delivery-requires same-length same-length-2 returns)

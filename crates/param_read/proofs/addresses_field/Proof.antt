@@ -23,8 +23,8 @@ address-field-requires-2 c κs = search needs
 enum-known-n-2 : tie.Need-enum-known-n-2
 enum-known-n-2 c = search needs
 
-enum-known-information : tie.Need-enum-known-information
-enum-known-information c = search needs
+enum-known-destination : tie.Need-enum-known-destination
+enum-known-destination c = search needs
 
 returns-2 : tie.Need-returns-2
 returns-2 c =
@@ -47,7 +47,7 @@ returns-4 c =
     let f = o .before .before in
     sym
     (addresses-both _ _ _ (eq-eqb _ _ (f .before .if1 .left))
-    ∙ simp (sym (f .address-field .ensures) ∙ o .origin .given .1, sym (g .address-field2 .ensures) ∙ c .before .information .given .1))
+    ∙ simp (sym (f .address-field .ensures) ∙ o .origin .given .1, sym (g .address-field2 .ensures) ∙ c .before .destination .given .1))
 
 pub addresses-field-spec : {M : Type 1} → statement M
 addresses-field-spec =
@@ -59,7 +59,7 @@ addresses-field-spec =
     enum-known-origin
     address-field-requires-2
     enum-known-n-2
-    enum-known-information
+    enum-known-destination
     returns-2
     returns-3
     returns-4)

@@ -19,7 +19,7 @@ returns c = rw (sym (c .before .before .before .addresses-field .ensures) ∙ c 
 
 returns-2 : tie.Need-returns-2
 unfolding afterAddresses
-returns-2 c = rw (sym (c .before .before .before .before .addresses-field .ensures) ∙ c .before .before .a .given .1)
+returns-2 c = rw (sym (c .before .before .before .before .before .addresses-field .ensures) ∙ c .before .before .before .a .given .1)
 
 pub rest-spec : {M : Type 1} → statement M
 rest-spec =

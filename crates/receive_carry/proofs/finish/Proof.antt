@@ -1,4 +1,5 @@
 use mathlib.Core.Path.{ap, _∙_}
+use Rattle.rules.specs.Records.{delivered}
 use Rattle.receive_carry.specs.Carried.{savingFrom, tellingOf}
 use Rattle.receive_carry.proofs.Stepping.{puts}
 use borrow.Author.Needs.{needs}
@@ -34,7 +35,7 @@ returns c =
     let v = c .before in
     let k = v .before in
     let freed = puts (k .taken .ensures) (k .before .free-place .ensures) in
-    c .telling .ensures ∙ ap (tellingOf 16 0 _ _ _) (v .saving .ensures ∙ ap (savingFrom _) freed)
+    c .telling .ensures ∙ ap (tellingOf delivered 0 _ _ _) (v .saving .ensures ∙ ap (savingFrom _) freed)
 
 pub finish-spec : {M : Type 1} → statement M
 finish-spec =

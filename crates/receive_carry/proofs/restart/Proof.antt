@@ -1,4 +1,5 @@
 use mathlib.Core.Path.{ap, _∙_}
+use Rattle.rules.specs.Records.{lost}
 use Rattle.receive_carry.specs.Carried.{savingFrom, tellingOf}
 use Rattle.receive_carry.proofs.Stepping.{puts}
 use borrow.Author.Needs.{needs}
@@ -21,8 +22,8 @@ returns : tie.Need-returns
 returns c =
     let v = c .before in
     let k = v .before in
-    let lost = puts (k .taken .ensures) (k .before .begun-place .ensures) in
-    c .telling .ensures ∙ ap (tellingOf 17 3 _ _ _) (v .saving .ensures ∙ ap (savingFrom 0) lost)
+    let gone = puts (k .taken .ensures) (k .before .begun-place .ensures) in
+    c .telling .ensures ∙ ap (tellingOf lost 3 _ _ _) (v .saving .ensures ∙ ap (savingFrom 0) gone)
 
 pub restart-spec : {M : Type 1} → statement M
 restart-spec =

@@ -1,4 +1,5 @@
 use mathlib.Core.Path.{ap, _∙_}
+use Rattle.rules.specs.Records.{delivered}
 use Rattle.receive_carry.specs.Carried.{tellingOf}
 use borrow.Author.Needs.{needs}
 use Rattle.receive_carry.proofs.unsegmented.Statement.{statement}
@@ -14,7 +15,7 @@ telling-requires : tie.Need-telling-requires
 telling-requires c κs = search needs
 
 returns : tie.Need-returns
-returns c = c .telling .ensures ∙ ap (tellingOf 16 0 _ 1 _) (c .before .taken .ensures)
+returns c = c .telling .ensures ∙ ap (tellingOf delivered 0 _ 1 _) (c .before .taken .ensures)
 
 pub unsegmented-spec : {M : Type 1} → statement M
 unsegmented-spec = tie.close (tie.spec taken-requires cast-telling telling-requires returns)

@@ -28,7 +28,8 @@ key-of-requires : tie.Need-key-of-requires
 key-of-requires c κs =
     let r = c .before .before .before in
     let s = r .before .before .before in
-    read-short (s .args .t) (now (s .args .s)) _ (sym (r .read .ensures) ∙ c .before .reading .given .1) .origin
+    let short = read-short (s .args .t) (now (s .args .s)) _ (sym (r .read .ensures) ∙ c .before .reading .given .1) in
+    (short .origin, short .destination)
 
 nowhere-requires-2 : tie.Need-nowhere-requires-2
 nowhere-requires-2 c κs = search needs

@@ -7,7 +7,7 @@ use native.Mathlib.Omega.{arith}
 use borrow.Author.Needs.{needs}
 use Rattle.rules.specs.General.{everyTwo}
 use Rattle.rules.proofs.Lists.{two-fail, two-go, two-end}
-use Rattle.sound.specs.Digest.{isOther}
+use Rattle.sound_rows.specs.Listing.{isOther}
 use Rattle.sound.proofs.all_differ.Statement.{statement}
 use Rattle.sound.proofs.all_differ.Tie as tie
 

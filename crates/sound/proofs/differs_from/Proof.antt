@@ -7,7 +7,7 @@ use lib.Seq.{getD-take, length-take-le}
 use native.Mathlib.Omega.{arith}
 use Rattle.rules.specs.General.{every}
 use Rattle.rules.proofs.Lists.{every-fails, every-goes, every-ends}
-use Rattle.sound.specs.Digest.{isOther}
+use Rattle.sound_rows.specs.Listing.{isOther}
 use Rattle.sound.proofs.differs_from.Statement.{statement}
 use Rattle.sound.proofs.differs_from.Tie as tie
 

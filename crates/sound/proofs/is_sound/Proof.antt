@@ -1,6 +1,6 @@
 use mathlib.Core.Path.{sym, ap, _∙_}
 use Rattle.rules.specs.General.{everyTwo}
-use Rattle.sound.specs.Digest.{isOther}
+use Rattle.sound_rows.specs.Listing.{isOther}
 use Rattle.sound.proofs.Digest.{told-all}
 use Rattle.sound.proofs.Halves.{sound-is, sound-apart}
 use borrow.Author.Needs.{needs}

@@ -31,31 +31,38 @@ add-more c = search needs
 word-requires : tie.Need-word-requires
 word-requires c κs = search needs
 
-add-result : tie.Need-add-result
-add-result c = search needs
+add-numbers : tie.Need-add-numbers
+add-numbers c = search needs
 
-cast-result : tie.Need-cast-result
-cast-result c = search needs
+cast-numbers : tie.Need-cast-numbers
+cast-numbers c = search needs
 
-add-result-2 : tie.Need-add-result-2
-add-result-2 c = search needs
+add-numbers-2 : tie.Need-add-numbers-2
+add-numbers-2 c = search needs
 
-add-result-3 : tie.Need-add-result-3
-add-result-3 c = search needs
+add-numbers-3 : tie.Need-add-numbers-3
+add-numbers-3 c = search needs
 
 address-weight-requires : tie.Need-address-weight-requires
 address-weight-requires c κs = search needs
 
-add-result-4 : tie.Need-add-result-4
-add-result-4 c = search needs
+add-result : tie.Need-add-result
+add-result c = search needs
+
+address-weight-requires-2 : tie.Need-address-weight-requires-2
+address-weight-requires-2 c κs = search needs
+
+add-result-2 : tie.Need-add-result-2
+add-result-2 c = search needs
 
 returns : tie.Need-returns
 returns c =
-    let w = c .before .before in
-    let k = c .before .struct-known5 .given in
-    let p = w .before .before .before .before .before .before .args .p in (
-      weight-nought p (c .address-weight .result) (w .word .result) (c .address-weight .ensures .0) (w .word .ensures .1 .0),
-      omega (arith, c .address-weight .ensures .1, w .word .ensures .1 .1, k),
+    let o = c .before in
+    let w = o .before .before in
+    let k = o .before .struct-known5 .given in
+    let p = w .before .before .before .before .before .before .before .args .p in (
+      weight-nought p (o .address-weight .result) (c .address-weight2 .result) (w .word .result) (o .address-weight .ensures .0) (c .address-weight2 .ensures .0) (w .word .ensures .1 .0),
+      omega (arith, o .address-weight .ensures .1, c .address-weight2 .ensures .1, w .word .ensures .1 .1, k),
     )
 
 pub weight-spec : {M : Type 1} → statement M
@@ -71,10 +78,12 @@ weight-spec =
     mul-more
     add-more
     word-requires
-    add-result
-    cast-result
-    add-result-2
-    add-result-3
+    add-numbers
+    cast-numbers
+    add-numbers-2
+    add-numbers-3
     address-weight-requires
-    add-result-4
+    add-result
+    address-weight-requires-2
+    add-result-2
     returns)

@@ -18,12 +18,15 @@ add-sum c = search needs
 address-sound-requires : tie.Need-address-sound-requires
 address-sound-requires c κs = search needs
 
+address-sound-requires-2 : tie.Need-address-sound-requires-2
+address-sound-requires-2 c κs = search needs
+
 elapsed-requires : tie.Need-elapsed-requires
 elapsed-requires c κs = search needs
 
 returns : tie.Need-returns
 unfolding openSound
-returns c = rw (c .elapsed .ensures, c .before .address-sound .ensures, c .before .before .before .before .before .before .before .before .before .before .before .kind-of .ensures)
+returns c = rw (c .elapsed .ensures, c .before .address-sound2 .ensures, c .before .before .address-sound .ensures, c .before .before .before .before .before .before .before .before .before .before .before .before .before .kind-of .ensures)
 
 pub open-sound-spec : {M : Type 1} → statement M
 open-sound-spec =
@@ -34,5 +37,6 @@ open-sound-spec =
     cast-sum-2
     add-sum
     address-sound-requires
+    address-sound-requires-2
     elapsed-requires
     returns)

@@ -4,14 +4,14 @@ use Prim.Native.Nat.{_+_, _*_, _-_, _≤_}
 use mathlib.Core.Path.{_≡_, sym, _∙_}
 use native.Mathlib.Omega.{arith}
 use lib.ListN.{drop}
-use Rattle.rules.specs.Records.{recordsFrom}
+use Rattle.rules.specs.Records.{recordLength, recordsFrom}
 use Rattle.rules.specs.Lines.{octetsOf}
 use Rattle.trace_lines.proofs.Totals.{total-next}
 use Rattle.trace_lines.proofs.total.Statement.{statement}
 use Rattle.trace_lines.proofs.total.Tie as tie
 
 abbrev Inv-loop : tie.InvT-loop
-Inv-loop report n kind sum₀ i₀ sum i = (i ≤ n) × (sum ≤ 65535 * i) × (octetsOf kind (recordsFrom n report) ≡ sum + octetsOf kind (recordsFrom (n - i) (drop (32 * i) report)))
+Inv-loop report n kind sum₀ i₀ sum i = (i ≤ n) × (sum ≤ 65535 * i) × (octetsOf kind (recordsFrom n report) ≡ sum + octetsOf kind (recordsFrom (n - i) (drop (recordLength * i) report)))
 
 abbrev μ-loop : tie.MeasureT-loop
 μ-loop report n kind sum₀ i₀ sum i = n - i

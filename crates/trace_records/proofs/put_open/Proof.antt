@@ -4,6 +4,7 @@ use mathlib.Core.Path.{_≡_, refl, _∙_}
 use native.Mathlib.Omega.{arith}
 use lib.ListN.{length, drop, drop-of-length-le}
 use Rattle.rules.specs.Listing.{openLines}
+use Rattle.trace_records.specs.Listing.{lineMost}
 use Rattle.trace_records.proofs.Writing.{Writing, writing-starts, writing-on, writing-ends}
 use Rattle.trace_records.proofs.Listing.{open-at}
 use Rattle.trace_records.proofs.put_open.Statement.{statement}
@@ -11,7 +12,7 @@ use Rattle.trace_records.proofs.put_open.Tie as tie
 
 abbrev Inv-loop : tie.InvT-loop
 Inv-loop out₀ at word places next₀ i₀ out next i =
-    (length out ≡ length out₀) × (i ≤ 16) × (next ≤ at + 198 * i) × Writing (openLines word places) out₀ at out next (openLines word (drop i places))
+    (length out ≡ length out₀) × (i ≤ 16) × (next ≤ at + lineMost * i) × Writing (openLines word places) out₀ at out next (openLines word (drop i places))
 
 abbrev μ-loop : tie.MeasureT-loop
 μ-loop out₀ at word places next₀ i₀ out next i = 16 - i

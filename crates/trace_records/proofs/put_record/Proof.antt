@@ -14,6 +14,9 @@ put-counts-requires c κs = search needs
 put-address-requires : tie.Need-put-address-requires
 put-address-requires c κs = search needs
 
+put-address-requires-2 : tie.Need-put-address-requires-2
+put-address-requires-2 c κs = search needs
+
 put-octet-requires : tie.Need-put-octet-requires
 put-octet-requires c κs = search needs
 
@@ -22,12 +25,18 @@ same-length c = search needs
 
 returns : tie.Need-returns
 returns c =
-    let o = c .before .before in
-    let g = o .before .before .before .before in
-    let k = g .before .before .before .before .before in
+    let l = c .before .before in
+    let d = l .before .before .before .before in
+    let o = d .before .before .before .before .before in
+    let k = o .before .before .before .before .before in
     let n = k .before .before .before .before in
-    let s = n .before .before .before .before .before in
-    (rw (← line-is (s .args .word .now) (s .args .r)) (wrote-then (wrote-then (wrote-then (n .put-named .ensures .0) (k .put-counts .ensures .0)) (g .put-address .ensures .0)) (o .put-octet .ensures)), omega (arith, n .put-named .ensures .1, k .put-counts .ensures .1, g .put-address .ensures .1, o .put-octet .ensures .place))
+    let s = n .before .before .before .before .before in (
+      rw (← line-is (s .args .word .now) (s .args .r))
+          (wrote-then
+          (wrote-then (wrote-then (wrote-then (n .put-named .ensures .0) (k .put-counts .ensures .0)) (o .put-address .ensures .0)) (d .put-address2 .ensures .0))
+          (l .put-octet .ensures)),
+      omega (arith, n .put-named .ensures .1, k .put-counts .ensures .1, o .put-address .ensures .1, d .put-address2 .ensures .1, l .put-octet .ensures .place),
+    )
 
 pub put-record-spec : {M : Type 1} → statement M
 put-record-spec =
@@ -36,6 +45,7 @@ put-record-spec =
     put-named-requires
     put-counts-requires
     put-address-requires
+    put-address-requires-2
     put-octet-requires
     same-length
     returns)

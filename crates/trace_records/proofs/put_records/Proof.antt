@@ -3,8 +3,9 @@ use Prim.Native.Nat.{_+_, _*_, _-_, _≤_}
 use mathlib.Core.Path.{_≡_, refl, _∙_}
 use native.Mathlib.Omega.{arith}
 use lib.ListN.{length, drop}
-use Rattle.rules.specs.Records.{recordsFrom}
+use Rattle.rules.specs.Records.{recordLength, recordsFrom}
 use Rattle.rules.specs.Listing.{recordLines}
+use Rattle.trace_records.specs.Listing.{lineMost}
 use Rattle.trace_records.proofs.Writing.{Writing, writing-starts, writing-on, writing-ends}
 use Rattle.trace_records.proofs.Listing.{records-next}
 use Rattle.trace_records.proofs.put_records.Statement.{statement}
@@ -12,7 +13,7 @@ use Rattle.trace_records.proofs.put_records.Tie as tie
 
 abbrev Inv-loop : tie.InvT-loop
 Inv-loop out₀ at report n next₀ i₀ out next i =
-    (length out ≡ length out₀) × (i ≤ n) × (next ≤ at + 198 * i) × Writing (recordLines (recordsFrom n report)) out₀ at out next (recordLines (recordsFrom (n - i) (drop (32 * i) report)))
+    (length out ≡ length out₀) × (i ≤ n) × (next ≤ at + lineMost * i) × Writing (recordLines (recordsFrom n report)) out₀ at out next (recordLines (recordsFrom (n - i) (drop (recordLength * i) report)))
 
 abbrev μ-loop : tie.MeasureT-loop
 μ-loop out₀ at report n next₀ i₀ out next i = n - i

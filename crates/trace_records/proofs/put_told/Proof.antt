@@ -3,7 +3,7 @@ use mathlib.Core.List.{append-nil}
 use native.Mathlib.Omega.{arith}
 use lib.ListN.{drop, length-drop}
 use lib.Seq.{length-take-le}
-use Rattle.rules.specs.Records.{recordFrom}
+use Rattle.rules.specs.Records.{delivered, recordLength, recordFrom}
 use borrow.Author.Tests.{eq-eqb, ne-eqb}
 use borrow.Author.Needs.{needs}
 use Rattle.trace_records.proofs.put_told.Statement.{statement}
@@ -16,7 +16,7 @@ record-of-requires : tie.Need-record-of-requires
 record-of-requires c κs =
     let s = c .before .before .before in
     let d = length-drop (s .args .from) (s .args .report .now) in
-    rw (c .part .ensures) (length-take-le 32 (drop (s .args .from) (s .args .report .now)) (omega (arith, d, s .pre .1 .1)))
+    rw (c .part .ensures) (length-take-le recordLength (drop (s .args .from) (s .args .report .now)) (omega (arith, d, s .pre .1 .1)))
 
 slice-aggregate-put-record : tie.Need-slice-aggregate-put-record
 slice-aggregate-put-record c = search needs
@@ -33,7 +33,7 @@ returns c =
     let t = p .before .before .before in
     let r = t .before .before in
     let e = r .record-of .ensures ∙ ap recordFrom (r .before .part .ensures) in
-    (rw (← e) (simp (eq-eqb _ 16 (t .if1 .taken)) (rw append-nil (p .put-record .ensures .0))), p .put-record .ensures .1)
+    (rw (← e) (simp (eq-eqb _ delivered (t .if1 .taken)) (rw append-nil (p .put-record .ensures .0))), p .put-record .ensures .1)
 
 slice-aggregate-put-record-2 : tie.Need-slice-aggregate-put-record-2
 slice-aggregate-put-record-2 c = search needs
@@ -50,7 +50,7 @@ returns-2 c =
     let t = p .before .before .before in
     let r = t .before .before in
     let e = r .record-of .ensures ∙ ap recordFrom (r .before .part .ensures) in
-    (rw (← e) (simp (ne-eqb _ 16 (t .if1 .left)) (rw append-nil (p .put-record2 .ensures .0))), p .put-record2 .ensures .1)
+    (rw (← e) (simp (ne-eqb _ delivered (t .if1 .left)) (rw append-nil (p .put-record2 .ensures .0))), p .put-record2 .ensures .1)
 
 pub put-told-spec : {M : Type 1} → statement M
 put-told-spec =
