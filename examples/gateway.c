@@ -2,9 +2,9 @@
  * gateway.c - a small host of the Egrynnol library.
  *
  * It cuts a message into segments, receives them, takes the delivery, loses a
- * sequence by the timer and another by a release, and bills each association by
- * the summary. It prints each step, checks each answer, and ends with status 1 at
- * the first that is not as expected.
+ * sequence by the timer and another by a release, keeps apart what goes to two
+ * exchanges, and bills each association by the summary. It prints each step,
+ * checks each answer, and ends with status 1 at the first that is not as expected.
  *
  *   make && cc -Iinclude examples/gateway.c target/lib/libegrynnol.a -o target/gateway && target/gateway
  */
@@ -31,8 +31,10 @@ typedef struct parameter {
 static const uint8_t message[] = "Please call back at 7 tonight.";
 static const size_t message_length = sizeof message - 1;
 
+/* Addresses: of who sends, and of two exchanges behind this gateway. */
 static const uint8_t origin[] = {0x00, 0x07};
-static const uint8_t destination[] = {0x31};
+static const uint8_t exchange[] = {0x31};
+static const uint8_t second_exchange[] = {0x31, 0x00};
 
 /* Length 0 needs an address too, never NULL. */
 static const uint8_t nothing[1] = {0};
@@ -48,13 +50,22 @@ static void check(int truth, const char *what)
 
 /* ---- Records ---- */
 
-static void print_record(egrynnol_record record)
+static void print_address(const char *name, const uint8_t *octets, unsigned length)
 {
     unsigned k;
+
+    check(length <= EGRYNNOL_ADDRESS, "the length of an address");
+    printf(", %s", name);
+    for (k = 0; k < length; k++)
+        printf(" %02X", octets[k]);
+    printf("%s", length ? "" : " none");
+}
+
+static void print_record(egrynnol_record record)
+{
     int lost = record.kind == EGRYNNOL_KIND_LOST;
 
     check(lost || record.kind == EGRYNNOL_KIND_DELIVERED, "the kind of a record");
-    check(record.origin_length <= EGRYNNOL_ADDRESS, "the origin's length in a record");
     printf("  record: %s, association %u, context %u", lost ? "lost" : "delivered", record.association,
            record.context);
     if (record.reference == EGRYNNOL_NO_REFERENCE)
@@ -64,10 +75,10 @@ static void print_record(egrynnol_record record)
     printf(", instruction %u", record.instruction);
     if (lost)
         printf(", cause %u (%s)", record.cause, egrynnol_cause_name(record.cause));
-    printf(", segments %u, octets %u, origin", record.segments, record.octets);
-    for (k = 0; k < record.origin_length; k++)
-        printf(" %02X", record.origin[k]);
-    printf("%s\n", k ? "" : " none");
+    printf(", segments %u, octets %u", record.segments, record.octets);
+    print_address("origin", record.origin, record.origin_length);
+    print_address("destination", record.destination, record.destination_length);
+    printf("\n");
 }
 
 static void print_records(unsigned count)
@@ -86,6 +97,14 @@ static int record_says(unsigned kind, unsigned cause, unsigned segments, size_t 
     return record.kind == kind && record.cause == cause && record.segments == segments && record.octets == octets;
 }
 
+/* Whether it names this destination: its length counts as well as its octets. */
+static int record_goes_to(const uint8_t *destination, size_t length)
+{
+    egrynnol_record record = egrynnol_record_at(gate.report, 0);
+
+    return record.destination_length == length && memcmp(record.destination, destination, length) == 0;
+}
+
 /* ---- The calls ---- */
 
 static void open_gate(void)
@@ -98,18 +117,18 @@ static void open_gate(void)
     printf("open: context 3 of 1998, context 4 of 2000, T 100, clock 0\n");
 }
 
-/* Cuts the message for context 4; answers how many segments there are. */
-static unsigned cut_message(parameter *segments)
+/* Cuts the message for context 4 and this destination; answers how many segments there are. */
+static unsigned cut_message(parameter *segments, const uint8_t *destination, size_t length)
 {
     egrynnol_request request = {4, EGRYNNOL_RELEASE_CALL, 5, 24, 20, 0};
-    size_t h = egrynnol_header_length(EGRYNNOL_KIND_2000, request.context, sizeof origin, sizeof destination);
+    size_t h = egrynnol_header_length(EGRYNNOL_KIND_2000, request.context, sizeof origin, length);
     egrynnol_sent sent;
 
-    check(h == 8, "the header's length");
+    check(h == 7 + length, "the header's length");
     printf("cut: %u octets behind a header of %u into segments of", (unsigned)message_length, (unsigned)h);
     do {
         parameter *segment = segments + request.number;
-        sent = egrynnol_sending(gate.table, request, origin, sizeof origin, destination, sizeof destination,
+        sent = egrynnol_sending(gate.table, request, origin, sizeof origin, destination, length,
                                 message, message_length, segment->octets, sizeof segment->octets);
         check(sent.refusal == EGRYNNOL_GOOD, "sending is not refused");
         check(sent.count <= EGRYNNOL_SEGMENTS && sent.length <= sizeof segment->octets, "what sending answers");
@@ -295,20 +314,36 @@ static void lost_by_release(const parameter *segments, unsigned count)
     check(hang_up(10) == 0, "the release of 10 loses nothing");
 }
 
+/* One origin, one reference, two exchanges behind this gateway: a place for each, and each gets its own. */
+static void two_exchanges(const parameter *segments, unsigned count)
+{
+    static parameter others[EGRYNNOL_SEGMENTS];
+    unsigned other_count = cut_message(others, second_exchange, sizeof second_exchange);
+
+    check(receive(11, segments).decision.place == 0, "what goes to one exchange gets place 0");
+    check(receive(11, others).decision.place == 1, "what goes to the other gets place 1");
+    joined(11, segments, 1, count);
+    check(record_goes_to(exchange, sizeof exchange), "the record names the one exchange");
+    joined(11, others, 1, other_count);
+    check(record_goes_to(second_exchange, sizeof second_exchange), "the record names the other");
+}
+
 /* Who had a segment taken is on the bill: each row has what the steps above say, added up. */
 static void billed(void)
 {
-    static const uint16_t asked[] = {9, 10, 11};
+    static const uint16_t asked[] = {9, 10, 11, 12};
     const egrynnol_summary *rows = &gate.summary;
     size_t k, i = egrynnol_row_of(rows, 9);
 
-    check(print_bill() == 2, "two associations are on the bill");
-    check(i == 0 && egrynnol_row_of(rows, 10) == 1, "rows go in the order of the first segments");
+    check(print_bill() == 3, "three associations are on the bill");
+    check(i == 0 && egrynnol_row_of(rows, 10) == 1 && egrynnol_row_of(rows, 11) == 2,
+          "rows go in the order of the first segments");
     check(rows->taken_segments[i] == 6 && rows->taken_octets[i] == 63, "what 9 had taken");
     check(rows->delivered_segments[i] == 4 && rows->delivered_octets[i] == 33, "what 9 had delivered");
     check(rows->lost_segments[i] == 2 && rows->lost_octets[i] == 30, "what 9 had lost");
     check(rows->taken_octets[1] == message_length && rows->delivered_octets[1] == message_length, "10 lost nothing");
-    check(egrynnol_row_of(rows, 11) == EGRYNNOL_ROWS, "11 has no row");
+    check(rows->delivered_octets[2] == 2 * message_length && rows->lost_octets[2] == 0, "11 had the message twice");
+    check(egrynnol_row_of(rows, 12) == EGRYNNOL_ROWS, "12 has no row");
     for (k = 0; k < sizeof asked / sizeof asked[0]; k++)
         printf("lost by association %u: %lu octets\n", asked[k], total(octets_lost(asked[k])));
 }
@@ -320,13 +355,14 @@ int main(void)
 
     printf("egrynnol %s, interface %d\n", EGRYNNOL_VERSION_STRING, EGRYNNOL_INTERFACE);
     open_gate();
-    count = cut_message(segments);
+    count = cut_message(segments, exchange, sizeof exchange);
     check(count == 3, "the message has three segments");
     joined(9, segments, 0, count);
     in_one_piece();
     refused();
     lost_by_the_timer(segments);
     lost_by_release(segments, count);
+    two_exchanges(segments, count);
     billed();
     printf("all as expected\n");
     return 0;

@@ -137,19 +137,20 @@ extern "C" {
 #define EGRYNNOL_KIND_LOST 19
 #define EGRYNNOL_NO_REFERENCE 255   /* reference of an unsegmented parameter */
 
-/* Where the fields of a record start. */
+/* Where the fields of a record start. With a context of 1998 both addresses are
+ * empty. */
 #define EGRYNNOL_AT_KIND 0
-#define EGRYNNOL_AT_ASSOCIATION 1     /* 2 octets */
-#define EGRYNNOL_AT_CONTEXT 3         /* 2 octets */
-#define EGRYNNOL_AT_REFERENCE 5       /* 0 to 127, or EGRYNNOL_NO_REFERENCE */
-#define EGRYNNOL_AT_INSTRUCTION 6     /* of the first segment of the sequence; of this segment where none was open */
-#define EGRYNNOL_AT_CAUSE 7           /* 0 in Delivered */
-#define EGRYNNOL_AT_SEGMENTS 8        /* segments covered */
-#define EGRYNNOL_AT_OCTETS 9          /* 2 octets: octets of information covered */
-#define EGRYNNOL_AT_ORIGIN_LENGTH 11  /* 0 to 20 */
-#define EGRYNNOL_AT_ORIGIN 12         /* 20 octets, zero filled */
+#define EGRYNNOL_AT_ASSOCIATION 1         /* 2 octets */
+#define EGRYNNOL_AT_CONTEXT 3             /* 2 octets */
+#define EGRYNNOL_AT_REFERENCE 5           /* 0 to 127, or EGRYNNOL_NO_REFERENCE */
+#define EGRYNNOL_AT_INSTRUCTION 6         /* of the first segment of the sequence; of this segment where none was open */
+#define EGRYNNOL_AT_CAUSE 7               /* 0 in Delivered */
+#define EGRYNNOL_AT_SEGMENTS 8            /* segments covered */
+#define EGRYNNOL_AT_OCTETS 9              /* 2 octets: octets of information covered */
+#define EGRYNNOL_AT_ORIGIN_LENGTH 11      /* 0 to 20 */
+#define EGRYNNOL_AT_ORIGIN 12             /* 20 octets, zero filled */
 #define EGRYNNOL_AT_DESTINATION_LENGTH 32 /* 0 to 20 */
-#define EGRYNNOL_AT_DESTINATION 33    /* 20 octets, zero filled */
+#define EGRYNNOL_AT_DESTINATION 33        /* 20 octets, zero filled */
 
 /* Causes of a loss. */
 enum egrynnol_cause {
@@ -513,17 +514,17 @@ EGRYNNOL_CHECK(part, sizeof(egrynnol_part) == 24
 
 /* A record of a report, in numbers. */
 typedef struct egrynnol_record {
-    unsigned kind;              /* EGRYNNOL_KIND_DELIVERED or EGRYNNOL_KIND_LOST */
+    unsigned kind;                         /* EGRYNNOL_KIND_DELIVERED or EGRYNNOL_KIND_LOST */
     unsigned association;
     unsigned context;
-    unsigned reference;         /* 0 to 127, or EGRYNNOL_NO_REFERENCE */
+    unsigned reference;                    /* 0 to 127, or EGRYNNOL_NO_REFERENCE */
     unsigned instruction;
-    unsigned cause;             /* enum egrynnol_cause; 0 in Delivered */
-    unsigned segments;          /* covered */
-    unsigned octets;            /* of information, covered */
-    unsigned origin_length;     /* 0 to 20 */
-    uint8_t origin[EGRYNNOL_ADDRESS]; /* zero filled */
-    unsigned destination_length; /* 0 to 20 */
+    unsigned cause;                        /* enum egrynnol_cause; 0 in Delivered */
+    unsigned segments;                     /* covered */
+    unsigned octets;                       /* of information, covered */
+    unsigned origin_length;                /* 0 to 20 */
+    uint8_t origin[EGRYNNOL_ADDRESS];      /* zero filled */
+    unsigned destination_length;           /* 0 to 20 */
     uint8_t destination[EGRYNNOL_ADDRESS]; /* zero filled */
 } egrynnol_record;
 

@@ -1,7 +1,8 @@
 /*
  * The inline functions of egrynnol.h, which no proof covers: every name, every field of a record, the
  * header's length beside what sending writes, a delivery for every kind of decision, and the row of an
- * association. Also what the header says of a summary that the host hands over.
+ * association. Also what the header says of the lengths of lent areas, of both addresses in places and in
+ * records, and of a summary and a table that the host hands over.
  * Prints one line; the first thing that is not as expected ends it with status 1.
  */
 #include <stdio.h>
@@ -73,16 +74,18 @@ static void records(void)
     for (k = 0; k < 2 * EGRYNNOL_RECORD; k++)
         report[k] = (uint8_t)(200 - k);
     record = egrynnol_record_at(report, 1);
-    CHECK(record.kind == 168);
-    CHECK(record.association == 167 * 256 + 166);
-    CHECK(record.context == 165 * 256 + 164);
-    CHECK(record.reference == 163);
-    CHECK(record.instruction == 162);
-    CHECK(record.cause == 161);
-    CHECK(record.segments == 160);
-    CHECK(record.octets == 159 * 256 + 158);
-    CHECK(record.origin_length == 157);
-    CHECK(memcmp(record.origin, report + 44, EGRYNNOL_ADDRESS) == 0);
+    CHECK(record.kind == 147);
+    CHECK(record.association == 146 * 256 + 145);
+    CHECK(record.context == 144 * 256 + 143);
+    CHECK(record.reference == 142);
+    CHECK(record.instruction == 141);
+    CHECK(record.cause == 140);
+    CHECK(record.segments == 139);
+    CHECK(record.octets == 138 * 256 + 137);
+    CHECK(record.origin_length == 136);
+    CHECK(memcmp(record.origin, report + 65, EGRYNNOL_ADDRESS) == 0);
+    CHECK(record.destination_length == 115);
+    CHECK(memcmp(record.destination, report + 86, EGRYNNOL_ADDRESS) == 0);
     CHECK(egrynnol_record_at(report, 0).kind == 200);
 }
 
@@ -187,6 +190,141 @@ static void deliveries(void)
     taken = take(received, nothing, 0);
     CHECK(received.decision.kind == EGRYNNOL_REFUSED && taken.length == 0 && taken.octets == nothing);
     CHECK(egrynnol_take(made_up, whole, sizeof whole, store, sizeof store).length == 0);
+}
+
+/* The least lengths of the report, by their numbers: an octet less is 3. */
+static void report_lengths(void)
+{
+    static const uint8_t whole[] = {0x83, 0x80, 0xC0, 0xAA};
+    egrynnol_table table = opened_with(EGRYNNOL_KIND_1998, 3);
+
+    CHECK(egrynnol_segment(table, &summary, store, sizeof store, report, 52, 9, whole, sizeof whole).refusal == EGRYNNOL_REFUSAL_REPORT);
+    CHECK(egrynnol_segment(table, &summary, store, sizeof store, report, 53, 9, whole, sizeof whole).refusal == EGRYNNOL_GOOD);
+    CHECK(egrynnol_clock(table, &summary, report, 847, 1).refusal == EGRYNNOL_REFUSAL_REPORT);
+    CHECK(egrynnol_clock(table, &summary, report, 848, 1).refusal == EGRYNNOL_GOOD);
+    CHECK(egrynnol_release(table, &summary, report, 847, 9).refusal == EGRYNNOL_REFUSAL_REPORT);
+    CHECK(egrynnol_release(table, &summary, report, 848, 9).refusal == EGRYNNOL_GOOD);
+}
+
+/* Whether an address of a place or of a record has these octets, and zeros behind them. */
+static int address_is(const uint8_t *octets, unsigned length, const uint8_t *wanted, unsigned wanted_length)
+{
+    unsigned k;
+
+    for (k = 0; k < EGRYNNOL_ADDRESS; k++)
+        if (octets[k] != (k < wanted_length ? wanted[k] : 0))
+            return 0;
+    return length == wanted_length;
+}
+
+/* Whether the first record of the report is of this kind and cause, from 31 to this destination. */
+static int record_between(unsigned kind, unsigned cause, const uint8_t *destination, unsigned length)
+{
+    static const uint8_t origin[] = {0x31};
+    egrynnol_record record = egrynnol_record_at(report, 0);
+
+    return record.kind == kind && record.cause == cause && address_is(record.origin, record.origin_length, origin, 1)
+        && address_is(record.destination, record.destination_length, destination, length);
+}
+
+static int place_between(const egrynnol_table *table, size_t place, const uint8_t *destination, unsigned length)
+{
+    static const uint8_t origin[] = {0x31};
+    const egrynnol_key *key = &table->places[place].key;
+
+    return key->association == 9 && key->context == 4 && key->reference == 5
+        && address_is(key->origin.octets, key->origin.length, origin, 1)
+        && address_is(key->destination.octets, key->destination.length, destination, length);
+}
+
+/* What a release of nobody answers where one octet of the table is another. */
+static unsigned judged_table(egrynnol_table *table, uint8_t *octet, uint8_t other)
+{
+    uint8_t before = *octet;
+    egrynnol_swept swept;
+
+    *octet = other;
+    swept = egrynnol_release(*table, &summary, report, sizeof report, 8);
+    CHECK(swept.records == 0);
+    *octet = before;
+    return swept.refusal;
+}
+
+/* One origin and one reference towards 00 07 and 07: two places, which the host could look at, and two deliveries.
+ * A last segment towards 07 00, which nobody began, is lost and leaves both open. */
+static void destinations(void)
+{
+    static const uint8_t two_first[] = {0x84, 0x80, 0x41, 0x85, 1, 0x31, 2, 0x00, 0x07, 0xAA};
+    static const uint8_t one_first[] = {0x84, 0x80, 0x41, 0x85, 1, 0x31, 1, 0x07, 0xBB};
+    static const uint8_t other_last[] = {0x84, 0x80, 0x00, 0x85, 1, 0x31, 2, 0x07, 0x00, 0xEE};
+    static const uint8_t two_last[] = {0x84, 0x80, 0x00, 0x85, 1, 0x31, 2, 0x00, 0x07, 0xCC};
+    static const uint8_t one_last[] = {0x84, 0x80, 0x00, 0x85, 1, 0x31, 1, 0x07, 0xDD};
+    static const uint8_t whole[] = {0x84, 0x80, 0xC0, 1, 0x31, 2, 0x07, 0x00};
+    static const uint8_t two[] = {0x00, 0x07}, one[] = {0x07}, other[] = {0x07, 0x00};
+    static const uint8_t two_joined[] = {0xAA, 0xCC}, one_joined[] = {0xBB, 0xDD};
+    egrynnol_table table = opened_with(EGRYNNOL_KIND_2000, 4);
+    egrynnol_address *address;
+    egrynnol_received received;
+    egrynnol_taken taken;
+
+    CHECK(arrives(&table, two_first, sizeof two_first).decision.place == 0 && place_between(&table, 0, two, 2));
+    received = arrives(&table, one_first, sizeof one_first);
+    CHECK(received.decision.kind == EGRYNNOL_SAVED && received.decision.place == 1 && place_between(&table, 1, one, 1));
+
+    received = arrives(&table, other_last, sizeof other_last);
+    CHECK(received.decision.kind == EGRYNNOL_LOST && received.decision.place == EGRYNNOL_NO_PLACE);
+    CHECK(record_between(EGRYNNOL_KIND_LOST, EGRYNNOL_CAUSE_NOT_OPEN, other, 2));
+    received = arrives(&table, whole, sizeof whole);
+    CHECK(received.decision.kind == EGRYNNOL_DELIVERED_PARAMETER && record_between(EGRYNNOL_KIND_DELIVERED, 0, other, 2));
+
+    /* a destination is judged as an origin is, in a place that is open and in one that is not */
+    address = &table.places[0].key.destination;
+    CHECK(judged_table(&table, &address->length, 2) == EGRYNNOL_GOOD);
+    CHECK(judged_table(&table, &address->length, 20) == EGRYNNOL_GOOD);
+    CHECK(judged_table(&table, &address->length, 21) == EGRYNNOL_REFUSAL_TABLE);
+    CHECK(judged_table(&table, &address->length, 1) == EGRYNNOL_REFUSAL_TABLE);
+    CHECK(judged_table(&table, &address->octets[1], 8) == EGRYNNOL_GOOD);
+    CHECK(judged_table(&table, &address->octets[19], 1) == EGRYNNOL_REFUSAL_TABLE);
+    address = &table.places[15].key.destination;
+    CHECK(judged_table(&table, &address->length, 1) == EGRYNNOL_REFUSAL_TABLE);
+    CHECK(judged_table(&table, &address->octets[0], 1) == EGRYNNOL_REFUSAL_TABLE);
+    /* one key in two places */
+    address = &table.places[1].key.destination;
+    *address = table.places[0].key.destination;
+    CHECK(judged_table(&table, &address->length, 2) == EGRYNNOL_REFUSAL_TABLE);
+    CHECK(judged_table(&table, &address->octets[1], 8) == EGRYNNOL_GOOD);
+    memset(address, 0, sizeof *address);
+    address->octets[0] = 0x07;
+    address->length = 1;
+
+    received = arrives(&table, two_last, sizeof two_last);
+    taken = take(received, two_last, sizeof two_last);
+    CHECK(taken.length == 2 && memcmp(taken.octets, two_joined, 2) == 0 && record_between(EGRYNNOL_KIND_DELIVERED, 0, two, 2));
+    received = arrives(&table, one_last, sizeof one_last);
+    taken = take(received, one_last, sizeof one_last);
+    CHECK(taken.length == 2 && memcmp(taken.octets, one_joined, 2) == 0 && record_between(EGRYNNOL_KIND_DELIVERED, 0, one, 1));
+}
+
+/* A context of 1998 has neither address: in a place and in a record both are empty. */
+static void no_addresses(void)
+{
+    static const uint8_t first[] = {0x83, 0x80, 0x41, 0x85, 0xAA};
+    egrynnol_table table = opened_with(EGRYNNOL_KIND_1998, 3);
+    egrynnol_address *address = &table.places[0].key.destination;
+    egrynnol_record record;
+    egrynnol_swept swept;
+
+    memset(report, 0x5A, sizeof report);
+    CHECK(arrives(&table, first, sizeof first).decision.kind == EGRYNNOL_SAVED);
+    CHECK(address_is(address->octets, address->length, first, 0));
+    CHECK(judged_table(&table, &address->length, 1) == EGRYNNOL_REFUSAL_TABLE);
+    CHECK(judged_table(&table, &address->octets[0], 1) == EGRYNNOL_REFUSAL_TABLE);
+    swept = egrynnol_release(table, &summary, report, sizeof report, 9);
+    record = egrynnol_record_at(report, 0);
+    CHECK(swept.records == 1 && record.kind == EGRYNNOL_KIND_LOST && record.cause == EGRYNNOL_CAUSE_RELEASE);
+    CHECK(address_is(record.origin, record.origin_length, first, 0));
+    CHECK(address_is(record.destination, record.destination_length, first, 0));
+    CHECK(report[EGRYNNOL_RECORD] == 0x5A);
 }
 
 /* The row that egrynnol_row_of has to answer for each association, told column by column. */
@@ -328,10 +466,13 @@ int main(void)
     records();
     header_lengths();
     deliveries();
+    report_lengths();
+    destinations();
+    no_addresses();
     rows_by_hand();
     rows_by_calls();
     handed_over();
     addresses();
-    printf("inline functions and summaries: as expected\n");
+    printf("inline functions, addresses and summaries: as expected\n");
     return 0;
 }
