@@ -1,5 +1,6 @@
 #!/usr/bin/env python3
-"""The manual page beside the header: every function is in it with the same arguments and the same order of refusals, every refusal number is, and what the host owes is told in the same words."""
+"""The manual page beside the header: every function is in it with the same arguments and the same order of refusals, every refusal number is, the structs have the same sizes, a record's fields
+the same places, and what the host owes is told in the same words."""
 import os
 import re
 import sys
@@ -81,6 +82,25 @@ def numbers_of_manual(text):
     return re.findall(r"^\.B (\d+)$", part, flags=re.M)
 
 
+def sizes_of_header(text):
+    """The structs whose sizes the header checks."""
+    return dict(re.findall(r"sizeof\(egrynnol_(\w+)\) == (\d+)", text))
+
+
+def sizes_of_manual(text):
+    found = re.findall(r"^typedef struct \{ +/\* ([\d,]+) octets \*/\n[^}]*\} egrynnol_(\w+);", text, flags=re.M)
+    return {name: size.replace(",", "") for size, name in found}
+
+
+def offsets_of_header(text):
+    return re.findall(r"^#define EGRYNNOL_AT_\w+ (\d+)\b", text, flags=re.M)
+
+
+def offsets_of_manual(text):
+    part = text[text.index(".SH RECORDS"):text.index("The causes of a loss")]
+    return re.findall(r"^\.B (\d+)$", part, flags=re.M)
+
+
 def main():
     header, manual = read("include/egrynnol.h"), read("man/egrynnol.3")
     bad = []
@@ -92,7 +112,9 @@ def main():
         if not re.search(r"\b%s\b" % name, name_section) or not re.search(r"^\.SS .*\b%s\b" % name, manual, flags=re.M):
             bad.append("%s: not under NAME, or with no section of its own" % name)
     for what, one, other in (("the orders of refusals", orders_of_header(header), orders_of_manual(manual)),
-                             ("the refusal numbers", numbers_of_header(header), numbers_of_manual(manual))):
+                             ("the refusal numbers", numbers_of_header(header), numbers_of_manual(manual)),
+                             ("the sizes of structs", sizes_of_header(header), sizes_of_manual(manual)),
+                             ("the places of a record's fields", offsets_of_header(header), offsets_of_manual(manual))):
         if one != other or len(one) < 5:
             bad.append("%s: the header has %s, the manual %s" % (what, one, other))
     told, again = owed_of_header(header), owed_of_manual(manual)
