@@ -394,7 +394,8 @@ class Programs(Folder):
 
     def test_nonsense(self):
         for line in ("event 1", "open 0 0 0 0", "segment 0 0 0 0 1 -", "open 0 0 0 0 1 -\nopen 0 0 0 0 2 -\nopen 0 0 0 0 3 -", "delivered 1 2", "\\377\\376", "stop", "held 1 2 3",
-                     "delivered 9 3 5 1 0 2 2 -", "open 0 0 0 0 1 refused 5", "open 5 0 0 0 1 -", "open 0 0 0 0 %s -" % ("9" * 5000)):
+                     "delivered 9 3 5 1 0 2 2 - -", "open 0 0 0 0 1 -\ndelivered 9 3 5 1 0 2 2 -", "open 0 0 0 0 1 -\ndelivered 9 4 5 1 0 2 2 07 0a",
+                     "open 0 0 0 0 1 -\ndelivered 9 4 5 1 0 2 2 07 070", "open 0 0 0 0 1 -\nlost 9 4 5 1 1 2 2 07 07 07", "open 0 0 0 0 1 refused 5", "open 5 0 0 0 1 -", "open 0 0 0 0 %s -" % ("9" * 5000)):
             for words in (["explain"], ["records", "--json"]):
                 ran = self.with_program("records", "cat >/dev/null; printf '%s\\n'" % line, *words)
                 self.assertEqual(ran.status, 2, line)
@@ -511,9 +512,10 @@ def as_line(row):
         decided = row["decision"] or "-"
         decided += " %s" % row["refusal"] if decided == "refused" else " %s" % row["place"] if decided == "saved" else ""
         return "%s %s %s %s %s %s %s" % (row["name"], row["refusal"], row["records"], row["octets_delivered"], row["octets_lost"], row["event"], decided)
-    origin = re.sub("^0x", "", row["origin"]) or "-"
+    origin, destination = (re.sub("^0x", "", row[name]) or "-" for name in ("origin", "destination"))
     reference = "-" if row["reference"] in (None, "") else row["reference"]
-    return "%s %s %s %s %s %s %s %s %s" % (row["row"], row["association"], row["context"], reference, row["instruction"], row["cause"], row["segments"], row["octets"], origin)
+    return "%s %s %s %s %s %s %s %s %s %s" % (row["row"], row["association"], row["context"], reference, row["instruction"], row["cause"], row["segments"], row["octets"],
+                                              origin, destination)
 
 
 class Tables(Folder):
@@ -527,7 +529,7 @@ class Tables(Folder):
         self.assertEqual([as_line(row) for row in json_rows], lines)
         for left, right in zip(csv_rows, json_rows):
             self.assertEqual(list(left), list(right))
-            self.assertTrue(all(isinstance(value, (int, type(None))) for key, value in right.items() if key not in ("file", "row", "name", "decision", "origin")))
+            self.assertTrue(all(isinstance(value, (int, type(None))) for key, value in right.items() if key not in ("file", "row", "name", "decision", "origin", "destination")))
         self.places(json_rows, path, text)
 
     def places(self, found, path, text):
@@ -556,15 +558,29 @@ class Tables(Folder):
             self.check(self.path(name, run("encode", example(name)).out), False)
 
     def test_every_kind_of_row(self):
-        text = self.path("t", b"context 2000 4\nopen 100 0\n\nsegment 9 84 80 41 85 02 00 07 00 AA\nopen 0 0 # drops\nopen 100 0\nsegment 9 84 80 41 85 01 1E 00 AA\ncontext 1998 3\n")
+        text = self.path("t", b"context 2000 4\nopen 100 0\n\nsegment 9 84 80 41 85 02 00 07 02 07 00 AA\nopen 0 0 # drops\nopen 100 0\nsegment 9 84 80 41 85 01 1E 00 AA\ncontext 1998 3\n")
         self.check(text, True)
         found = [json.loads(line) for line in run("records", "--json", text).out.decode().splitlines()]
         self.assertEqual([row["row"] for row in found], ["event", "event", "event", "dropped", "event", "event", "held", "stop"])
         self.assertEqual([row["line"] for row in found], [2, 4, 5, 5, 6, 7, None, 8])
-        self.assertEqual([row["origin"] for row in found if row["origin"]], ["0007", "1E"])
+        self.assertEqual([(row["origin"], row["destination"]) for row in found], [(None, None)] * 3 + [("0007", "0700")] + [(None, None)] * 2 + [("1E", ""), (None, None)])
 
-    def test_a_spreadsheet_must_not_take_an_origin_for_a_number(self):
-        self.assertIn(b",0x0007\n", run("records", "--csv", example("origins")).out)
+    def test_columns(self):
+        """The destination stands behind the origin, and both last."""
+        head, *table = csv.reader(io.StringIO(run("records", "--csv", example("two-exchanges")).out.decode(), newline=""))
+        self.assertEqual(head, list(rows.COLUMNS))
+        self.assertEqual(head[-3:], ["octets", "origin", "destination"])
+        self.assertEqual([row[-9:] for row in table[-3:]], [[""] * 9, "9 4 9 2 7 1 1 0x3132 0x21".split(), "9 4 9 0 7 1 2 0x3132 0x22".split()])
+        last = json.loads(run("records", "--json", example("two-exchanges")).out.decode().splitlines()[-1])
+        self.assertEqual(list(last), head)
+        self.assertEqual((last["origin"], last["destination"]), ("3132", "22"))
+
+    def test_a_spreadsheet_must_not_take_an_address_for_a_number(self):
+        self.assertIn(b",0x0007,\n", run("records", "--csv", example("origins")).out)
+        found = run("records", "--csv", example("two-exchanges")).out
+        for digits in (b"07", b"0007", b"0700"):
+            self.assertIn(b",0x3132,0x%s\n" % digits, found)
+        self.assertNotRegex(found.decode(), r",(?:3132|0007|0700|07)[,\n]")
 
     def test_to_a_file(self):
         out = self.path("table.csv")

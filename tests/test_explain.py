@@ -110,7 +110,7 @@ def some_segment(chance):
     else:
         heading += [64 * new + remaining, 128 + chance.choice([5, 5, 5, 6, chance.randrange(128)])]
     if context == 4:
-        heading += chance.choice([[2, 0, 7, 0], [1, 7, 0], [0, 0], [1, 7, 1, 9], [21]])
+        heading += chance.choice([[2, 0, 7, 0], [1, 7, 0], [0, 0], [1, 7, 1, 9], [1, 7, 2, 0, 9], [1, 7, 2, 9, 0], [21]])
     if chance.random() < 0.1:
         heading = heading[:chance.randrange(len(heading))] + [chance.randrange(256)] * chance.randrange(2)
     return segment(chance, chance.choice([9, 9, 10]), heading, bytes(chance.choice([0, 1, 3, 230])))

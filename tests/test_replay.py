@@ -111,6 +111,14 @@ class Cases(unittest.TestCase):
         self.from_open(context(5) + release(), "stop")
         self.prints(context(3) + opening(0) + context(5), "open 12 0 0 0", "stop")
 
+    def test_records_of_a_report_are_no_events(self):
+        """Kinds 16 to 19, as long as they were or are, before an open and after it."""
+        for kind in (16, 17, 18, 19):
+            for length in (31, 52):
+                with self.subTest(kind, length=length):
+                    self.from_open(bytes([kind]) + bytes(length) + release(), "stop")
+                    self.prints(context(3) + bytes([kind]) + bytes(length) + opening(), "stop")
+
     def test_unknown_kinds(self):
         for kind in [0, *range(3, 32), *range(36, 256)]:
             with self.subTest(kind):
@@ -181,6 +189,23 @@ class Cases(unittest.TestCase):
     def test_origins_apart(self):
         self.from_open(segment("8480418502000700AA") + segment("848041850107" + "00BB") + segment("8480008502000700CC") + segment("848000850107" + "00DDEE"),
                        "segment 0 0 0 0", "segment 0 0 0 0", "segment 0 1 2 0", "segment 0 1 3 0")
+
+    def test_destinations_apart(self):
+        """One origin, one reference: 21 and 22; 00 07 and 07; 07 and 07 00; and none beside 00."""
+        for one, other in (("0121", "0122"), ("020007", "0107"), ("0107", "020700"), ("00", "0100")):
+            with self.subTest(one, other=other):
+                first, last, other_first, other_last = (segment("8480%s850131%s%s" % (heading, to, octets)) for to, heading, octets in
+                                                        ((one, "41", "AA"), (one, "00", "CC"), (other, "41", "BBBB"), (other, "00", "DDDD")))
+                self.from_open(first + other_first + last + other_last, "segment 0 0 0 0", "segment 0 0 0 0", "segment 0 1 2 0", "segment 0 1 4 0")
+                self.from_open(first + other_first + other_last + last, "segment 0 0 0 0", "segment 0 0 0 0", "segment 0 1 4 0", "segment 0 1 2 0")
+                self.from_open(first + other_last + last, "segment 0 0 0 0", "segment 0 1 0 2", "segment 0 1 2 0")               # line 4, and the other stays open
+                self.from_open(first + segment("84804A850131%sEE" % other) + last, "segment 0 0 0 0", "segment 0 1 0 1", "segment 0 1 2 0")  # line 1, of itself alone
+                self.from_open(first + other_first + first + last + release(), "segment 0 0 0 0", "segment 0 0 0 0", "segment 0 1 0 1", "segment 0 1 2 0", "release 0 1 0 2")
+
+    def test_seventeen_destinations(self):
+        """Each has a place of its own, and there are 16."""
+        octets = b"".join(segment("848041850131%02X%sAA" % (k, "07" * k)) for k in range(17))
+        self.from_open(octets + clock(100), *["segment 0 0 0 0"] * 16, "segment 10 0 0 0", "clock 0 16 0 16")
 
     def test_octets_past_the_length_do_not_count(self):
         self.from_open(segment("8380C0AA", past=b"\xbb" * 200), "segment 0 1 1 0")

@@ -87,6 +87,14 @@ class Cases(unittest.TestCase):
         self.from_open(segment("85", 1) + segment("8380C0", 7) + segment("8380C0AA", 0) + segment("8380C0", 65535) + segment("8380C0BBCC", 7) + segment("8380C0", 1),
                        "7 2 2 2 2 0 0", "0 1 1 1 1 0 0", "65535 1 0 1 0 0 0", "1 1 0 1 0 0 0")
 
+    def test_two_destinations_have_one_row(self):
+        """What goes to both is delivered apart, and is one association's; a stray last segment is lost by itself."""
+        to = ["8480%s850131" + "01%02X%s" % (destination, octets) for destination, octets in ((0x21, "AA"), (0x22, "BBBBBB"))]
+        first, other_first, last, other_last = (segment(text % heading) for heading in ("41", "00") for text in to)
+        self.from_open(first + other_first + last + other_last, "9 4 8 4 8 0 0")
+        self.from_open(first + other_last + last, "9 3 5 2 2 1 3")
+        self.from_open(first + other_first + release(), "9 2 4 0 0 2 4")
+
     def test_several_losses_in_one_call(self):
         octets = b"".join(segment("838041%02XAA" % (128 + k), 9 + k % 2) for k in range(16))
         self.from_open(octets + clock(100), "9 8 8 0 0 8 8", "10 8 8 0 0 8 8")
@@ -124,7 +132,7 @@ def added_up(lines):
         elif name == "open":
             before, rows = (openings[-1][1] if openings else {}), {}
             openings.append(("opening %s %s" % (fields[4], fields[0]), rows))
-        elif name in ("delivered", "lost", "dropped", "held") and len(fields) == 8:
+        elif name in ("delivered", "lost", "dropped", "held") and len(fields) == 9:
             association, segments, octets = fields[0], int(fields[5]), int(fields[6])
             row = (before if name == "dropped" else openings[-1][1]).setdefault(association, [0] * 6)
             for at in (0, 2 if name == "delivered" else 4) if name in ("delivered", "lost") else (0,):

@@ -295,6 +295,9 @@ class BadOctets(unittest.TestCase):
                 (b"\x03\0\0", "kind 3 is unknown"), (b"\x24", "kind 36 is unknown"),
                 (b"\x10" + bytes(31), "kind 16 is a record of a report, it has no place in a trace"),
                 (b"\x11" + bytes(31), "kind 17 is a record of a report"),
+                (b"\x12" + bytes(52), "kind 18 is a record of a report, it has no place in a trace"),
+                (b"\x13" + bytes(52), "kind 19 is a record of a report"),
+                (b"\x0f" + bytes(52), "kind 15 is unknown"), (b"\x14" + bytes(52), "kind 20 is unknown"),
                 (b"\x01\0", "the record is cut: kind 1 (context 1998) has 3 octets, here are 2"),
                 (b"\x02", "kind 2 (context 2000) has 3 octets, here are 1"),
                 (b"\x20" + bytes(7), "kind 32 (open) has 9 octets, here are 8"),
@@ -450,25 +453,39 @@ class Explained(unittest.TestCase):
             "segment 9 83 80 42 85 01\nsegment 9 83 80 00 85 02\nsegment 9 83 80 42 85 01\nsegment 9 83 80 42 85 02\nsegment 9 83 80 4A 85 03\n"
             "segment 9 84 80 42 86 02 00 07 00 01 02 03\nclock 100\nsegment 9 83 80 42 85 01\nrelease 9\nsegment 9 83 80 42 85 01\nopen 100 0\n"
             "segment 9 83 80 42 86 01\nopen 0 0\nopen 5 5\nsegment 8 83 80 42 87 01 02\n")
-        whose = "association 9, context 3, reference %d, instruction %d, no originating address"
+        whose = "association 9, context 3, reference %d, instruction %d, no originating address, no destination address"
         for line in ("saved in place 0", "delivered: 2 octets in 2 segments; " + whose % (5, 1),
-                     "delivered: 1 octet in 1 segment; association 9, context 3, unsegmented, instruction 0, no originating address",
+                     "delivered: 1 octet in 1 segment; association 9, context 3, unsegmented, instruction 0, no originating address, no destination address",
                      "lost, cause 1 (%s): 0 octets in 1 segment; %s" % (words.CAUSES[1], whose % (5, 0)),
                      "lost, cause 2 (%s): 2 octets in 2 segments; %s" % (words.CAUSES[2], whose % (5, 0)),
                      "lost, cause 3 (%s): 1 octet in 1 segment; %s" % (words.CAUSES[3], whose % (5, 0)),
                      "lost, cause 4 (%s): 2 octets in 2 segments; %s" % (words.CAUSES[4], whose % (5, 0)),
-                     "lost, cause 6 (%s): 3 octets in 1 segment; association 9, context 4, reference 6, instruction 0, originating address 00 07" % words.CAUSES[6],
+                     "lost, cause 6 (%s): 3 octets in 1 segment; association 9, context 4, reference 6, instruction 0, originating address 00 07, no destination address" % words.CAUSES[6],
                      "lost, cause 7 (%s): 1 octet in 1 segment; %s" % (words.CAUSES[7], whose % (5, 0)),
                      "dropped by this opening, with no record: 1 octet in 1 segment; " + whose % (5, 0),
                      "dropped by this opening, with no record: 1 octet in 1 segment; " + whose % (6, 0)):
             self.assertIn("\n    %s\n" % line, text)
         self.assertTrue(text.endswith(
-            "at the end:\n    held, still open and in no record: 2 octets in 1 segment; association 8, context 3, reference 7, instruction 0, no originating address\n"), text)
+            "at the end:\n    held, still open and in no record: 2 octets in 1 segment; association 8, context 3, reference 7, instruction 0, no originating address, no destination address\n"), text)
         full = run("explain", example("full-table")).out.decode()
         self.assertIn("    refused 10: %s\n" % words.REFUSALS[10], full)
         lessees = run("explain", example("lessees")).out.decode()
         self.assertEqual(lessees.count("    refused 21: no row for a new association: 64 have one\n"), 4)
         self.assertIn("lost, cause 5 (%s): 2049 octets in 10 segments" % words.CAUSES[5], run("explain", example("longest")).out.decode())
+
+    def test_both_addresses_of_a_record(self):
+        """Either, both or none, each in the same words."""
+        for parameter, said in (("02 00 07 01 31", "originating address 00 07, destination address 31"), ("00 02 07 00", "no originating address, destination address 07 00"),
+                                ("01 07 00", "originating address 07, no destination address"), ("00 00", "no originating address, no destination address")):
+            text = explain_text(REGISTRY + "segment 9 84 80 C0 %s AA\nsegment 9 84 80 00 85 %s AA\nsegment 9 84 80 41 85 %s AA\n" % (parameter, parameter, parameter))
+            for line in ("delivered: 1 octet in 1 segment; association 9, context 4, unsegmented, instruction 0, " + said,
+                         "lost, cause 1 (%s): 1 octet in 1 segment; association 9, context 4, reference 5, instruction 0, %s" % (words.CAUSES[1], said),
+                         "held, still open and in no record: 1 octet in 1 segment; association 9, context 4, reference 5, instruction 0, " + said):
+                self.assertIn("\n    %s\n" % line, text)
+        text = run("explain", example("two-exchanges")).out.decode()
+        for to, octets in (("21", 3), ("22", 5)):
+            self.assertIn("\n    delivered: %d octets in 2 segments; association 9, context 4, reference 5, instruction 0, originating address 31 32, destination address %s\n" % (octets, to), text)
+        self.assertIn("\n    2 records: 0 octets delivered, 3 octets lost\n", text)
 
     def test_octets_and_text_are_told_alike(self):
         text = REGISTRY + "segment 9 84 80 41 85 02 00 07 00 AA\nsegment 9\n"

@@ -255,9 +255,9 @@ delivered, lost, dropped, held, stop); event, its number from 1; line, of a
 text, or offset, of octets; then the event's name, refusal, records,
 octets_delivered, octets_lost, decision and place; then a record's
 association, context, reference (none for an unsegmented parameter),
-instruction, cause, segments, octets and origin (in hex; in CSV with 0x before
-it, since a spreadsheet takes 0007 and 07 for one number). What a row does not
-have is empty in CSV and null in JSON.
+instruction, cause, segments, octets, origin and destination (both in hex; in
+CSV with 0x before them, since a spreadsheet takes 0007 and 07 for one number).
+What a row does not have is empty in CSV and null in JSON.
 """
 
 TOTALS = """\

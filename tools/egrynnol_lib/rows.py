@@ -12,13 +12,15 @@ from egrynnol_lib.traces import OPEN, WORDS, Bad, parsed
 
 # row: event, delivered, lost, dropped, held or stop. What a row has no part in is None.
 COLUMNS = ("file", "row", "event", "line", "offset", "name", "refusal", "records", "octets_delivered", "octets_lost", "decision", "place",
-           "association", "context", "reference", "instruction", "cause", "segments", "octets", "origin")
+           "association", "context", "reference", "instruction", "cause", "segments", "octets", "origin", "destination")
+ADDRESSES = ("origin", "destination")
 Row = collections.namedtuple("Row", COLUMNS)
 NOTHING = Row(*[None] * len(COLUMNS))
 
 NUMBER = r"([0-9]{1,19})"
+ADDRESS = r"((?:[0-9A-F]{2})+|-)"
 EVENT = re.compile(r"(open|segment|clock|release) N N N N N (?:(refused) N|(saved) N|(delivered|lost|-))\Z".replace("N", NUMBER))
-UNDER = re.compile(r"(delivered|lost|dropped|held) N N (-|[0-9]{1,19}) N N N N ((?:[0-9A-F]{2})+|-)\Z".replace("N", NUMBER))
+UNDER = re.compile(r"(delivered|lost|dropped|held) N N (-|[0-9]{1,19}) N N N N A A\Z".replace("A", ADDRESS).replace("N", NUMBER))
 
 
 def row_of(line):
@@ -33,10 +35,11 @@ def row_of(line):
         numbers = dict(zip(("refusal", "records", "octets_delivered", "octets_lost", "event"), map(int, numbers)))
         return NOTHING._replace(row="event", name=name, decision=decision, place=int(place) if place else None, **numbers)
     if under:
-        name, association, context, reference, *numbers, origin = under.groups()
+        name, association, context, reference, *numbers, origin, destination = under.groups()
         numbers = dict(zip(("instruction", "cause", "segments", "octets"), map(int, numbers)))
+        addresses = {address: "" if word == "-" else word for address, word in zip(ADDRESSES, (origin, destination))}
         return NOTHING._replace(row=name, association=int(association), context=int(context), reference=None if reference == "-" else int(reference),
-                                origin="" if origin == "-" else origin, **numbers)
+                                **numbers, **addresses)
     if line == "stop":
         return NOTHING._replace(row="stop")
     raise Failed("records printed what is not understood: %s" % line[:80])
@@ -126,9 +129,9 @@ def csv_head():
 
 
 def csv_of(row):
-    """An origin has 0x before it: a spreadsheet takes 0007 and 07 for one number, and 1E05 for 100000."""
-    origin = "0x" + row.origin if row.origin else ""
-    return csv_line("" if cell is None else cell for cell in row._replace(origin=origin))
+    """An address has 0x before it: a spreadsheet takes 0007 and 07 for one number, and 1E05 for 100000."""
+    marked = {address: "0x" + getattr(row, address) for address in ADDRESSES if getattr(row, address)}
+    return csv_line("" if cell is None else cell for cell in row._replace(**marked))
 
 
 def json_of(row):

@@ -20,6 +20,7 @@ FORMS = {
     34: ("clock", (("time", 4),)),
     35: ("release", (("association", 2),)),
 }
+REPORT = range(16, 20)  # kinds of a report's records: 18 and 19, and before version 3 they were 16 and 17
 WORDS = {"open": 32, "segment": 33, "clock": 34, "release": 35}
 OPEN, SEGMENT = 32, 33
 
@@ -216,7 +217,7 @@ def octets_of_record(record):
 def record_at(octets, at):
     """The record that starts there; None where it is not whole."""
     kind = octets[at]
-    if kind in (16, 17):
+    if kind in REPORT:
         raise Bad("kind %d is a record of a report, it has no place in a trace" % kind)
     if kind not in FORMS:
         raise Bad("kind %d is unknown; a trace has kinds 1, 2, 32, 33, 34 and 35" % kind)

@@ -166,12 +166,17 @@ class Registry:
 
 # ---- what was answered ----
 
+def address(name, digits):
+    """An address of a record, by its name and its hex digits."""
+    return "%s address %s" % (name, hexed(bytes.fromhex(digits))) if digits else "no %s address" % name
+
+
 def fields(row):
-    """What a record covers, and whose it is."""
+    """What a record covers, whose it is, and where it goes."""
     reference = "unsegmented" if row.reference is None else "reference %d" % row.reference
-    origin = "originating address " + hexed(bytes.fromhex(row.origin)) if row.origin else "no originating address"
-    return "%s in %s; association %d, context %d, %s, instruction %d, %s" % (
-        count(row.octets), count(row.segments, "segment"), row.association, row.context, reference, row.instruction, origin)
+    return "%s in %s; association %d, context %d, %s, instruction %d, %s, %s" % (
+        count(row.octets), count(row.segments, "segment"), row.association, row.context, reference, row.instruction,
+        address("originating", row.origin), address("destination", row.destination))
 
 
 def answer_lines(row):
