@@ -395,7 +395,8 @@ class Programs(Folder):
     def test_nonsense(self):
         for line in ("event 1", "open 0 0 0 0", "segment 0 0 0 0 1 -", "open 0 0 0 0 1 -\nopen 0 0 0 0 2 -\nopen 0 0 0 0 3 -", "delivered 1 2", "\\377\\376", "stop", "held 1 2 3",
                      "delivered 9 3 5 1 0 2 2 - -", "open 0 0 0 0 1 -\ndelivered 9 3 5 1 0 2 2 -", "open 0 0 0 0 1 -\ndelivered 9 4 5 1 0 2 2 07 0a",
-                     "open 0 0 0 0 1 -\ndelivered 9 4 5 1 0 2 2 07 070", "open 0 0 0 0 1 -\nlost 9 4 5 1 1 2 2 07 07 07", "open 0 0 0 0 1 refused 5", "open 5 0 0 0 1 -", "open 0 0 0 0 %s -" % ("9" * 5000)):
+                     "open 0 0 0 0 1 -\ndelivered 9 4 5 1 0 2 2 07 070", "open 0 0 0 0 1 -\nlost 9 4 5 1 1 2 2 07 07 07",
+                     "open 0 0 0 0 1 refused 5", "open 5 0 0 0 1 -", "open 0 0 0 0 %s -" % ("9" * 5000)):
             for words in (["explain"], ["records", "--json"]):
                 ran = self.with_program("records", "cat >/dev/null; printf '%s\\n'" % line, *words)
                 self.assertEqual(ran.status, 2, line)

@@ -1,5 +1,5 @@
 #!/usr/bin/env python3
-"""What egrynnol explain says in words is what the replay program prints, on every example and on generated traces.
+"""What egrynnol explain says in words is what the programs replay and records print, on every example and on generated traces.
 
     python3 tests/test_explain.py            the programs are in EGRYNNOL_LIBEXEC, or in target/bin; SEED and RUNS set the traces
 """
@@ -25,6 +25,9 @@ EVENT = re.compile(r"(?:line|offset) \d+, event (\d+): (open|segment|clock|relea
 RECORD = re.compile(r"    (delivered|lost, cause \d \(.*?\)): (\d+) octets? in ")
 SUM = re.compile(r"    (\d+) records: (\d+) octets? delivered, (\d+) octets? lost\Z")
 REFUSED = re.compile(r"    refused (\d+): ")
+UNDER = re.compile(r"    (delivered|lost|dropped|held)(?:, cause (\d) \(.*?\)| by this opening, with no record|, still open and in no record)?: (\d+) octets? in (\d+) segments?; "
+                   r"association (\d+), context (\d+), (?:unsegmented|reference (\d+)), instruction (\d), "
+                   r"(?:no originating address|originating address ([0-9A-F ]+)), (?:no destination address|destination address ([0-9A-F ]+))\Z")
 
 
 class Told:
@@ -74,10 +77,27 @@ def agree(text, lines):
         return False
 
 
-def replayed(octets):
-    done = subprocess.run([programs.path_of("replay")], input=octets, stdout=subprocess.PIPE, stderr=subprocess.PIPE, timeout=60)
+def records_in_words(text):
+    """The lines of records for what was delivered, lost, dropped and held, put together again from the words."""
+    lines = []
+    for name, cause, octets, segments, association, context, reference, instruction, *addresses in (found.groups() for found in map(UNDER.match, text.splitlines()) if found):
+        lines.append(" ".join([name, association, context, reference or "-", instruction, cause or "0", segments, octets] + [(digits or "-").replace(" ", "") for digits in addresses]))
+    return lines
+
+
+def printed(name, octets):
+    done = subprocess.run([programs.path_of(name)], input=octets, stdout=subprocess.PIPE, stderr=subprocess.PIPE, timeout=60)
     assert done.stderr == b"", done.stderr
     return done.stdout.decode("ascii").splitlines()
+
+
+def replayed(octets):
+    return printed("replay", octets)
+
+
+def recorded(octets):
+    """Of the lines of records, those for what was delivered, lost, dropped and held."""
+    return [line for line in printed("records", octets) if line.split(" ")[0] in ("delivered", "lost", "dropped", "held")]
 
 
 class Sink(io.BytesIO):
@@ -147,6 +167,7 @@ class Agrees(unittest.TestCase):
             octets = run("encode", example(name)).out
             text = run("explain", example(name)).out.decode()
             self.assertEqual(lines_in_words(text), replayed(octets), name)
+            self.assertEqual(records_in_words(text), recorded(octets), name)
 
     def test_generated_traces(self):
         chance = random.Random(SEED)
@@ -161,6 +182,18 @@ class Agrees(unittest.TestCase):
         wanted = {"refused %d" % number for number in (1, 5, 6, 7, 8, 9, 10, 11, 12, 13, 21, 23)} | {"cause %d" % number for number in (1, 2, 3, 4, 6, 7)}
         wanted |= {"saved in place 15", "dropped", "held", "stop,", "    delivered"}
         self.assertEqual(wanted - met if RUNS >= 1000 else set(), set(), "not met")
+
+    def test_whose_each_record_is(self):
+        """Every field of a record, both addresses too, of all four kinds of lines."""
+        chance, kinds, addresses = random.Random(SEED + 2), set(), set()
+        for _ in range(RUNS // 3):
+            octets = some_trace(chance)
+            lines = recorded(octets)
+            self.assertEqual(records_in_words(explained(octets)[1]), lines, octets.hex())
+            kinds |= {line.split(" ")[0] for line in lines}
+            addresses |= {tuple(line.split(" ")[-2:]) for line in lines}
+        self.assertEqual(kinds, {"delivered", "lost", "dropped", "held"})
+        self.assertLessEqual({("-", "-"), ("0007", "-"), ("07", "-"), ("07", "09"), ("07", "0009"), ("07", "0900")}, addresses)
 
     def test_nothing_vanishes(self):
         """Every segment that was not refused, and each of its octets, is delivered, lost, dropped or held."""
