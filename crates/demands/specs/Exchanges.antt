@@ -7,7 +7,7 @@ use mathlib.Core.List.{List}
 use lib.ListN.{length, getD}
 use Rattle.rules.specs.Records.{recordLength}
 use Rattle.rules.specs.Places.{isFree, noPlace}
-use Rattle.rules.specs.Calls.{State, Call}
+use Rattle.rules.specs.Calls.{State, Call, step}
 use Rattle.rules.specs.declared.Key.{Key}
 use Rattle.demands.specs.Machine.{Machine, CanCount, InRange}
 use Rattle.demands.specs.Seen.{seenBy}
@@ -38,15 +38,15 @@ pub record TwoFree (st : State) : Type 0 where
 abbrev pub TakesNone : State → State → Type 0
 TakesNone st st′ = (p : ℕ) → FreeAt st p → FreeAt st′ p
 
--- calls from a state on in which segments of both arrive, each's in order, and the summary can count each: i of x's and j of y's have arrived before, and i′ and j′ after. Other calls touch
--- neither sequence and take no free place
+-- calls from a state on in which segments of both arrive, each's in order, and the summary can count each: i of x's and j of y's have arrived before, and i′ and j′ after. Other calls, by
+-- the rules, touch neither sequence and take no free place: so no machine gets out of it by what it takes
 pub data Crossing (m : Machine) (x y : Shipment) : State → ℕ → ℕ → State → ℕ → ℕ → Type 0 where
   stop : {st : State} {i j : ℕ} → Crossing m x y st i j st i j
   ofOne : {st st′ : State} {i j i′ j′ : ℕ} (report : List ℕ) → i < countIn x → recordLength ≤ length report → CanCount st (arrivalOf x i report)
       → Crossing m x y (m .step st (arrivalOf x i report) .state) (suc i) j st′ i′ j′ → Crossing m x y st i j st′ i′ j′
   ofTwo : {st st′ : State} {i j i′ j′ : ℕ} (report : List ℕ) → j < countIn y → recordLength ≤ length report → CanCount st (arrivalOf y j report)
       → Crossing m x y (m .step st (arrivalOf y j report) .state) i (suc j) st′ i′ j′ → Crossing m x y st i j st′ i′ j′
-  other : {st st′ : State} {i j i′ j′ : ℕ} (c : Call) → InRange c → Spares st (keyIn x) c → Spares st (keyIn y) c → TakesNone st (m .step st c .state)
+  other : {st st′ : State} {i j i′ j′ : ℕ} (c : Call) → InRange c → Spares st (keyIn x) c → Spares st (keyIn y) c → TakesNone st (step st c .state)
       → Crossing m x y (m .step st c .state) i j st′ i′ j′ → Crossing m x y st i j st′ i′ j′
 
 -- the last segment of each brings back all of its data

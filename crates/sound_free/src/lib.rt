@@ -10,7 +10,7 @@ ghost use Rattle.rules.specs.General.{every};
 ghost use Rattle.rules.specs.Places.{isFree};
 ghost use Rattle.rules.specs.Soundness.{isZero, addressZero, freeSound};
 ghost use Rattle.sound_free.specs.Idle.{soundIfIdle};
-ghost use Rattle.sound_free.specs.Weights.{wordOf, wordMost, addressMost, placeMost};
+ghost use Rattle.sound_free.specs.Weights.{wordOf, octetsWeight, wordMost, addressMost, placeMost};
 
 // Four octets as one number, the first the least: where they stand in a row they are read at once.
 pub fn word(a: u8, b: u8, c: u8, d: u8) -> u64
@@ -22,9 +22,10 @@ pub fn word(a: u8, b: u8, c: u8, d: u8) -> u64
 }
 
 // What an address's octets weigh: 0 where all of them are.
-fn octets_weight(a: [u8; 20]) -> u64
+pub fn octets_weight(a: [u8; 20]) -> u64
     ensures { λ r. ⌜ eqb r 0 ≡ every isZero a ⌝ }
     ensures { λ r. ⌜ r ≤ 5 * wordMost ⌝ }
+    ensures { λ r. ⌜ r ≡ octetsWeight a ⌝ }
 {
     word(a[0], a[1], a[2], a[3])
         + word(a[4], a[5], a[6], a[7])

@@ -90,13 +90,16 @@ pub struct Seen {
     pub sound: bool,
 }
 
-// What tells most open places apart, as one number: of the key all but the octets of an address.
+// What tells most open places apart, as one number: of the key all but the octets of its addresses, and of those of the destination a remainder, so that two exchanges differ.
 fn digest_of(p: Place) -> u64
     ensures { λ r. ⌜ r ≡ digest p ⌝ }
 {
     let names = (p.key.association as u64) * 65536 + (p.key.context.0 as u64);
     let lengths = (p.key.origin.length as u64) * 256 + (p.key.destination.length as u64);
-    (names * 256 + (p.key.reference.0 as u64)) * 65536 + lengths
+    let destination = p.key.destination;
+    let octets = destination.octets;
+    let mix = sound_free::octets_weight(octets) % 251;
+    (names * 256 + (p.key.reference.0 as u64)) * 65536 + lengths + 72057594037927936 * mix
 }
 
 // The open places in one go.

@@ -102,7 +102,7 @@ returns c =
       simp sum-nought
           (rw (c .word5 .ensures .1 .0, d .word4 .ensures .1 .0, e .word3 .ensures .1 .0, f .word2 .ensures .1 .0, g .word .ensures .1 .0)
           (sym (twenty-nought (g .before .args .t1) (omega arith)))),
-      search needs,
+      (search needs, rw (c .word5 .ensures .0, d .word4 .ensures .0, e .word3 .ensures .0, f .word2 .ensures .0, g .word .ensures .0)),
     )
 
 pub octets-weight-spec : {M : Type 1} → statement M
