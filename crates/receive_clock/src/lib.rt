@@ -95,11 +95,15 @@ fn judge(sound: bool, report: &[u8]) -> u8
     0
 }
 
-// Sets the clock, and loses every sequence that has grown too old.
+// Sets the clock, and loses every sequence that has grown too old. Whether one is due is asked first, so that no call between it and the table's arrival makes the compiler copy the table.
 pub fn clock(t: Table, m: &mut [u64; rules::SUMMARY], report: &mut [u8], time: u32) -> Swept
     ensures { λ r. ⌜ OfClock t (now (m .entry)) (now (report .entry)) time r (now (m .exit)) (now (report .exit)) ⌝ }
 {
-    let is_sound = sound::is_sound(t);
+    let timer = t.timer;
+    let which = Test::Aged { time, timer };
+    let due = receive_sweep::any_due(t, which);
+    let open = sound::open_sound(t);
+    let is_sound = sound::is_sound(t, open);
     let is_summed = sound::is_summed(t, m);
     let refusal = judge(is_sound & is_summed, report);
     if refusal != 0 {
@@ -108,9 +112,7 @@ pub fn clock(t: Table, m: &mut [u64; rules::SUMMARY], report: &mut [u8], time: u
     if 2147483648 <= table::elapsed(time, t.clock) {
         return refused(t, 13);
     }
-    let timer = t.timer;
-    let which = Test::Aged { time, timer };
-    if !receive_sweep::any_due(t, which) {
+    if !due {
         return passed(t, time);
     }
     lose(t, m, report, time, which)
@@ -125,14 +127,16 @@ pub fn release(
 ) -> Swept
     ensures { λ r. ⌜ OfRelease t (now (m .entry)) (now (report .entry)) association r (now (m .exit)) (now (report .exit)) ⌝ }
 {
-    let is_sound = sound::is_sound(t);
+    let which = Test::Of(association);
+    let due = receive_sweep::any_due(t, which);
+    let open = sound::open_sound(t);
+    let is_sound = sound::is_sound(t, open);
     let is_summed = sound::is_summed(t, m);
     let refusal = judge(is_sound & is_summed, report);
     if refusal != 0 {
         return refused(t, refusal);
     }
-    let which = Test::Of(association);
-    if !receive_sweep::any_due(t, which) {
+    if !due {
         return passed(t, t.clock);
     }
     lose(t, m, report, t.clock, which)

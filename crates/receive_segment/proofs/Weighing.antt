@@ -4,23 +4,28 @@ use mathlib.Core.Path.{_≡_, refl, sym, ap, _∙_}
 use mathlib.Core.Bool.{Bool, true, false, not, true≢false}
 use mathlib.Core.List.{List, [], _∷_, _++_}
 use native.Mathlib.Omega.{arith}
-use lib.ListN.{length, drop}
+use borrow.Author.Tests.{eqb-true, eqb-false}
+use lib.Dec.{eqb}
+use lib.ListN.{length, drop, getD}
 use Rattle.rules.specs.General.{if_then_else_}
 use Rattle.rules.specs.Refusals.{Check, _when_, accepted, first, judged}
 use Rattle.rules.specs.Layout.{fieldsOf}
+use Rattle.rules.specs.Places.{noPlace}
 use Rattle.rules.specs.Receiving.{informationOf, Reception, receivedAt, unreceived, segmentChecks, segment}
 use Rattle.rules.specs.Summary.{Counted, counting, summarySound, took, billed, summaryChecks, rowChecks, totalChecks, segmentSums, segmentChecksWith, segmentWith}
 use Rattle.rules.proofs.Refusals.{Least, least-append, accepted-append, accepted-first, judged-first, first-least}
 use Rattle.rules.proofs.Least.{zero-accepted, segment-least}
 use Rattle.rules.specs.declared.Key.{Key}
+use Rattle.rules.specs.declared.Place.{Place}
 use Rattle.rules.specs.declared.Record.{Record}
 use Rattle.rules.specs.declared.Table.{Table}
 use Rattle.rules.specs.declared.Received.{Received}
-use Rattle.receive_perform.specs.Performing.{recordsIn, Leads}
+use Rattle.receive_perform.specs.Performing.{refusedWith, recordsIn, Fits, Leads}
 use Rattle.receive_perform.specs.declared.Verdict.{Verdict}
 use Rattle.receive_count.specs.Counting.{sumsBy, OfCount}
 use Rattle.receive_count.specs.declared.Count.{Count}
 use Rattle.receive_segment.specs.Arrival.{OfVerdict, OfWeighing}
+use Rattle.receive_segment.proofs.Arriving.{leads-as, refuses, refused-fits}
 
 first-passed : (xs ys : List Check) → accepted xs ≡ true → first (xs ++ ys) ≡ first ys
 first-passed [] ys e = refl
@@ -70,7 +75,7 @@ module _ (t : Table) (m store report : List ℕ) (association : ℕ) (s : List �
   carried z = rw (own-accepted z)
 
   -- what is counted is what the rule counts
-  pub sums-same : v .refusal ≡ 0 → sumsBy m association (length (drop (v .information) s)) v key ≡ segmentSums t m store report association s
+  sums-same : v .refusal ≡ 0 → sumsBy m association (length (drop (v .information) s)) v key ≡ segmentSums t m store report association s
   unfolding segmentSums
   sums-same z =
       let made : recordsIn v key ≡ receivedAt t store report association s .made = leads .made ∙ ap (λ (r : Reception). r .made) (carried z) in
@@ -96,14 +101,52 @@ module _ (t : Table) (m store report : List ℕ) (association : ℕ) (s : List �
   unfolding segmentChecksWith
   all-least = (omega arith, least-append 1 own last (segment-least t store report association s) (omega arith, (omega arith, tt)))
 
-  pub refused-is : (c .refusal ≡ 0 → ⊥) → segmentWith t m store report association s ≡ counting m (unreceived t store report (c .refusal))
+  refused-is : (c .refusal ≡ 0 → ⊥) → segmentWith t m store report association s ≡ counting m (unreceived t store report (c .refusal))
   unfolding segmentWith
   refused-is some =
       judged-first all (λ n. counting m (unreceived t store report n)) (counting (segmentSums t m store report association s) (receivedAt t store report association s)) (λ z. some (whole-number ∙ z))
       ∙ ap (λ (n : ℕ). counting m (unreceived t store report n)) (sym whole-number)
 
-  pub taken-is : c .refusal ≡ 0 → segmentWith t m store report association s ≡ counting (segmentSums t m store report association s) (segment t store report association s)
+  taken-is : c .refusal ≡ 0 → segmentWith t m store report association s ≡ counting (segmentSums t m store report association s) (segment t store report association s)
   unfolding segmentWith
   taken-is z =
       let e : accepted all ≡ true = zero-accepted 0 all all-least (sym whole-number ∙ z) in
       rw e (ap (counting (segmentSums t m store report association s)) (sym (carried (weighs .taken z .1))))
+
+  -- the last verdict, which refuses where the count does, leads to what the whole rule leaves
+  module _ (held : Place) (there : held ≡ getD (t .places) place noPlace) (w : Verdict) (same : c .refusal ≡ 0 → w ≡ v) (other : (c .refusal ≡ 0 → ⊥) → w ≡ refusedWith (c .refusal) held) where
+    abbrev whole : Counted Reception
+    whole = segmentWith t m store report association s
+
+    pub settled : Leads (whole .call) t place key w (drop (v .information) s) store report
+    settled = go (eqb (c .refusal) 0) refl
+      where
+        go : (b : Bool) → eqb (c .refusal) 0 ≡ b → Leads (whole .call) t place key w (drop (v .information) s) store report
+        go true e =
+            let z = eqb-true (c .refusal) 0 e in
+            leads-as (ap (λ (o : Counted Reception). o .call) (sym (taken-is z))) (rw (same z) leads)
+        go false e =
+            let some = eqb-false (c .refusal) 0 e in
+            leads-as (ap (λ (o : Counted Reception). o .call) (sym (refused-is some))) (refuses t place (c .refusal) key held w there (other some) (drop (v .information) s) store report)
+
+    pub settled-fits : Fits w (length store) (length (drop (v .information) s))
+    settled-fits = go (eqb (c .refusal) 0) refl
+      where
+        go : (b : Bool) → eqb (c .refusal) 0 ≡ b → Fits w (length store) (length (drop (v .information) s))
+        go true e = rw (same (eqb-true (c .refusal) 0 e)) (judges .fits)
+        go false e = refused-fits t place (c .refusal) key held w there (other (eqb-false (c .refusal) 0 e)) (length store) (length (drop (v .information) s))
+
+    pub settled-sums : (after : List ℕ)
+        → (c .refusal ≡ 0 → (k : Key) → k .association ≡ association → after ≡ sumsBy m association (length (drop (v .information) s)) v k)
+        → ((c .refusal ≡ 0 → ⊥) → after ≡ m)
+        → after ≡ whole .summary
+    settled-sums after taken stays = go (eqb (c .refusal) 0) refl
+      where
+        go : (b : Bool) → eqb (c .refusal) 0 ≡ b → after ≡ whole .summary
+        go true e =
+            let z = eqb-true (c .refusal) 0 e in
+            let own = weighs .taken z .1 in
+            taken z key (judges .own own) ∙ sums-same own ∙ ap (λ (o : Counted Reception). o .summary) (sym (taken-is z))
+        go false e =
+            let some = eqb-false (c .refusal) 0 e in
+            stays some ∙ ap (λ (o : Counted Reception). o .summary) (sym (refused-is some))

@@ -11,16 +11,18 @@ use rules::Received;
 use rules::Table;
 ghost use mathlib.Core.Path.{_≡_};
 ghost use mathlib.Core.Bool.{true};
-ghost use mathlib.Core.List.{List, []};
+ghost use mathlib.Core.List.{List};
 ghost use Prim.Native.Nat.{ℕ, _≤_, _<_};
 ghost use lib.ListN.{length, drop, getD};
 ghost use Rattle.rules.specs.Numbers.{parameterMost, storeLeast, placeCount};
 ghost use Rattle.rules.specs.Places.{noPlace};
-ghost use Rattle.rules.specs.Receiving.{keyOf, informationOf, unreceived};
+ghost use Rattle.rules.specs.Receiving.{keyOf, informationOf};
 ghost use Rattle.rules.specs.Soundness.{sound};
+ghost use Rattle.rules.specs.declared.Key.{Key};
 ghost use Rattle.rules.specs.Promises.{OfSegment};
 ghost use Rattle.param_read.specs.Reading.{reading};
 ghost use Rattle.receive_perform.specs.Performing.{refusedWith, Fits, Leads};
+ghost use Rattle.receive_count.specs.Counting.{sumsBy, OfCount};
 ghost use Rattle.receive_seek.specs.Seeking.{Seeks};
 ghost use Rattle.receive_segment.specs.Arrival.{arrival, OfVerdict, OfWeighing};
 
@@ -92,19 +94,7 @@ fn judge(
     }
 }
 
-// The answer to a segment that is refused: the table as it came.
-fn refusal(t: Table, number: u8) -> Received
-    ensures { λ r. ⌜ r ≡ unreceived t [] [] number .answer ⌝ }
-{
-    Received {
-        table: t,
-        decision: Decision::Refused,
-        refusal: number,
-        records: 0,
-    }
-}
-
-// .. to one that is taken.
+// The answer to a segment, refused or taken, with the table as it is left.
 fn received(t: Table, v: Verdict) -> Received
     ensures { λ r. ⌜ r ≡ record { table = t; decision = v .decision; refusal = v .refusal; records = v .records } ⌝ }
 {
@@ -139,7 +129,30 @@ fn count(
     receive_count::judge(m, association, n, v)
 }
 
-// A segment arrives. All is judged, reading only; then the verdict is performed and counted, and one place of the copy of the table is written. A later check goes before the first writing.
+// The last verdict: a refusal where the summary, or a check before it, refuses.
+fn settle(c: Count, held: Place, v: Verdict) -> Verdict
+    ensures { λ r. ⌜ (c .refusal ≡ 0 → r ≡ v) × ((c .refusal ≡ 0 → ⊥) → r ≡ refusedWith (c .refusal) held) ⌝ }
+{
+    if c.refusal == 0 {
+        return v;
+    }
+    refused(c.refusal, held)
+}
+
+// Counts a segment in the summary, unless it is refused.
+fn tally(m: &mut [u64; rules::SUMMARY], c: Count, association: u16, n: usize, v: Verdict)
+    requires { ⌜ (c .refusal ≡ 0 → OfCount (now m) association n v c) ⌝ }
+    ensures { λ _. ⌜ (c .refusal ≡ 0 → (key : Key) → key .association ≡ association → now (m .exit) ≡ sumsBy (now (m .entry)) association n v key) ⌝ }
+    ensures { λ _. ⌜ ((c .refusal ≡ 0 → ⊥) → now (m .exit) ≡ now (m .entry)) ⌝ }
+{
+    if c.refusal != 0 {
+        return;
+    }
+    receive_count::perform(m, c, association, n, v);
+}
+
+// A segment arrives. All is judged, reading only; then the last verdict is performed, and one place of the copy of the table is written. A refusal writes nothing, and its place stays: so
+// there is one end for both, and the copy goes to the answer at once. A later check goes before the first writing.
 pub fn segment(
     t: Table,
     m: &mut [u64; rules::SUMMARY],
@@ -150,7 +163,8 @@ pub fn segment(
 ) -> Received
     ensures { λ r. ⌜ OfSegment t (now (m .entry)) (now (store .entry)) (now (report .entry)) association (now (s .entry)) r (now (m .exit)) (now (store .exit)) (now (report .exit)) ⌝ }
 {
-    let is_sound = sound::is_sound(t);
+    let open = sound::open_sound(t);
+    let is_sound = sound::is_sound(t, open);
     let is_summed = sound::is_summed(t, m);
     let mut next = t;
     let q = receive_seek::seek(t, association, s);
@@ -169,13 +183,11 @@ pub fn segment(
     let octets = param_read::tail(s, v.information);
     let n = octets.len();
     let c = count(m, is_summed, association, n, v);
-    if c.refusal != 0 {
-        return refusal(next, c.refusal);
-    }
-    receive_count::perform(m, c, association, n, v);
+    let w = settle(c, held, v);
+    tally(m, c, association, n, v);
     let key = q.key;
-    receive_perform::perform(v, at, key, store, report, octets);
-    let put = v.put;
+    receive_perform::perform(w, at, key, store, report, octets);
+    let put = w.put;
     next.places[at] = put;
-    received(next, v)
+    received(next, w)
 }

@@ -133,10 +133,11 @@ pub fn sending(
 ) -> Sent
     ensures { λ r. ⌜ OfSending t q (now (origin .entry)) (now (destination .entry)) (now (whole .entry)) (now (area .entry)) r (now (area .exit)) ⌝ }
 {
+    let open = sound::open_sound(t);
+    let sound = sound::is_sound(t, open);
     let registry = t.registry;
     let context = q.context;
     let kind = registry::kind_of(registry, context);
-    let sound = sound::is_sound(t);
     let o = origin.len();
     let d = destination.len();
     let n = whole.len();

@@ -1,7 +1,7 @@
--- A place is sound where both halves say so, and all places are where each half does for all.
+-- A place is sound where both halves say so, all places are where each half does for all, and a table where both of its parts are.
 use Prim.Native.Nat.{ℕ}
-use mathlib.Core.Path.{_≡_, refl, sym, ap, _∙_}
-use mathlib.Core.Bool.{Bool, true, false, not, _&&_, _||_, and-true, and-false, and-assoc, or-false}
+use mathlib.Core.Path.{_≡_, refl, sym, _∙_}
+use mathlib.Core.Bool.{Bool, true, false, not, _&&_, _||_, and-true, and-false, and-comm, or-false}
 use mathlib.Core.List.{List, [], _∷_}
 use native.Mathlib.Omega.{arith}
 use borrow.Author.Tests.{eqb-true, ne-eqb}
@@ -15,6 +15,7 @@ use Rattle.rules.specs.declared.Place.{Place}
 use Rattle.rules.specs.declared.Table.{Table}
 use Rattle.sound_free.specs.Idle.{soundIfIdle}
 use Rattle.sound_open.specs.Open.{soundIfOpen}
+use Rattle.sound.specs.Parts.{besideIdle}
 
 crossed : (a b c d : Bool) → ((a && b) && (c && d)) ≡ ((a && c) && (b && d))
 crossed false b c d = refl
@@ -39,19 +40,13 @@ module _ (registry : List Entry) (timer clock : ℕ) where
   both-halves : (ps : List Place) → every (placeSound registry timer clock) ps ≡ (every (soundIfOpen registry timer clock) ps && every soundIfIdle ps)
   both-halves = every-both (soundIfOpen registry timer clock) soundIfIdle (placeSound registry timer clock) place-halves
 
--- what the code asks of a table but for the keys, in its order
-abbrev eachSound : Table → Bool
-eachSound t =
-    timerInRange (t .timer)
-    && registrySound (t .registry)
-    && every (soundIfOpen (t .registry) (t .timer) (t .clock)) (t .places)
-    && every soundIfIdle (t .places)
+last-out : (a b c d : Bool) → (a && (b && c) && d) ≡ (a && b && d && c)
+last-out false b c d = refl
+last-out true false c d = refl
+last-out true true c d = and-comm c d
 
-pub sound-is : (t : Table) → sound t ≡ (eachSound t && everyTwo placesApart (t .places))
-unfolding sound
-sound-is t =
+pub sound-parts : (t : Table) → sound t ≡ (besideIdle t && every soundIfIdle (t .places))
+unfolding sound besideIdle
+sound-parts t =
     rw (both-halves (t .registry) (t .timer) (t .clock) (t .places))
-    (ap (λ (b : Bool). b && everyTwo placesApart (t .places)) (sym (and-assoc (timerInRange (t .timer) && registrySound (t .registry)) _ _)))
-
-pub sound-apart : (t : Table) → everyTwo placesApart (t .places) ≡ true → sound t ≡ eachSound t
-sound-apart t apart = sound-is t ∙ rw apart (and-true (eachSound t))
+    (last-out (timerInRange (t .timer) && registrySound (t .registry)) _ _ (everyTwo placesApart (t .places)))

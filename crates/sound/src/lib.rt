@@ -3,11 +3,12 @@ use rules::Place;
 use rules::Table;
 ghost use mathlib.Core.Path.{_≡_};
 ghost use mathlib.Core.List.{map};
-ghost use Prim.Native.Nat.{_≤_};
-ghost use lib.ListN.{take, drop};
+ghost use Prim.Native.Nat.{_+_, _<_, _≤_};
+ghost use lib.ListN.{length, take, drop, getD};
 ghost use Rattle.rules.specs.General.{every, everyTwo, those};
-ghost use Rattle.rules.specs.Places.{isOpen};
+ghost use Rattle.rules.specs.Places.{noPlace, isOpen};
 ghost use Rattle.sound_rows.specs.Listing.{isOther};
+ghost use Rattle.sound.specs.Parts.{besideIdle};
 ghost use Rattle.sound.specs.Seated.{associationOf};
 ghost use Rattle.rules.specs.Summary.{summarySound};
 ghost use Rattle.rules.specs.Soundness.{placesApart, sound};
@@ -25,11 +26,13 @@ fn are_apart(p: Place, q: Place) -> bool
     true
 }
 
-// Whether an open place is apart from each from number at on; a place that is not open is apart from all.
-fn apart_from(places: [Place; 16], at: usize, p: Place) -> bool
-    ensures { λ r. ⌜ r ≡ every (placesApart p) (drop at places) ⌝ }
+// Whether a place is apart from each behind it; one that is not open is apart from all.
+fn apart_from(places: [Place; 16], at: usize) -> bool
+    requires { ⌜ at < 16 ⌝ }
+    ensures { λ r. ⌜ r ≡ every (placesApart (getD places at noPlace)) (drop (at + 1) places) ⌝ }
 {
-    let mut i = at;
+    let p = places[at];
+    let mut i = at + 1;
     while i < 16 {
         let q = places[i];
         if !are_apart(p, q) {
@@ -41,9 +44,9 @@ fn apart_from(places: [Place; 16], at: usize, p: Place) -> bool
 }
 
 // Whether a number is none of the first n from index at on.
-fn differs_from(digests: [u64; 16], at: usize, n: usize, d: u64) -> bool
-    requires { ⌜ n ≤ 16 ⌝ }
-    ensures { λ r. ⌜ r ≡ every (isOther d) (drop at (take n digests)) ⌝ }
+fn differs_from(digests: &[u64], at: usize, n: usize, d: u64) -> bool
+    requires { ⌜ n ≤ length (now digests) ⌝ }
+    ensures { λ r. ⌜ r ≡ every (isOther d) (drop at (take n (now (digests .entry)))) ⌝ }
 {
     let mut i = at;
     while i < n {
@@ -56,9 +59,9 @@ fn differs_from(digests: [u64; 16], at: usize, n: usize, d: u64) -> bool
 }
 
 // Whether no two of the first n are the same.
-fn all_differ(digests: [u64; 16], n: usize) -> bool
-    requires { ⌜ n ≤ 16 ⌝ }
-    ensures { λ r. ⌜ r ≡ everyTwo isOther (take n digests) ⌝ }
+fn all_differ(digests: &[u64], n: usize) -> bool
+    requires { ⌜ n ≤ length (now digests) ⌝ }
+    ensures { λ r. ⌜ r ≡ everyTwo isOther (take n (now (digests .entry))) ⌝ }
 {
     let mut i = 0;
     while i < n {
@@ -71,14 +74,13 @@ fn all_differ(digests: [u64; 16], n: usize) -> bool
     true
 }
 
-// Whether no two open places share a key.
+// Whether no two open places share a key. Both places of two are read in apart_from: so the places are copied for one of the loops and not for both.
 fn keys_apart(places: [Place; 16]) -> bool
     ensures { λ r. ⌜ r ≡ everyTwo placesApart places ⌝ }
 {
     let mut i = 0;
     while i < 16 {
-        let p = places[i];
-        if !apart_from(places, i + 1, p) {
+        if !apart_from(places, i) {
             return false;
         }
         i += 1;
@@ -86,22 +88,30 @@ fn keys_apart(places: [Place; 16]) -> bool
     true
 }
 
-// Whether a table is sound. Where the digests of open places differ their keys do, and no key need be looked at.
-pub fn is_sound(t: Table) -> bool
-    ensures { λ r. ⌜ r ≡ sound t ⌝ }
+// Whether a table is sound but for the places that are not open. Where the digests of open places differ their keys do, and no key need be looked at.
+pub fn open_sound(t: Table) -> bool
+    ensures { λ r. ⌜ r ≡ besideIdle t ⌝ }
 {
     let timed = (1 <= t.timer) & (t.timer <= 1000000);
     let registry = t.registry;
     let places = t.places;
     let listed = registry::is_sound(registry);
-    let idle = sound_free::idle_sound(places);
     let seen = sound_open::look_over(places, registry, t.timer, t.clock);
-    let each = timed & listed & seen.sound & idle;
+    let each = timed & listed & seen.sound;
     let digests = seen.digests;
-    if all_differ(digests, seen.open) {
+    if all_differ(&digests, seen.open) {
         return each;
     }
     each & keys_apart(places)
+}
+
+// Whether a table is sound of which so much is known. By a call of its own the places that are not open are read where they are: together with the open ones they would be copied.
+pub fn is_sound(t: Table, open: bool) -> bool
+    requires { ⌜ «open» ≡ besideIdle t ⌝ }
+    ensures { λ r. ⌜ r ≡ sound t ⌝ }
+{
+    let places = t.places;
+    open & sound_free::idle_sound(places)
 }
 
 // The associations of the open places, one after the other, and how many there are.
@@ -147,7 +157,8 @@ pub struct Soundness {
 pub fn are_sound(t: Table, m: &[u64; rules::SUMMARY]) -> Soundness
     ensures { λ r. ⌜ (r .table ≡ sound t) × (r .summary ≡ summarySound (now (m .entry)) (t .places)) ⌝ }
 {
-    let table = is_sound(t);
+    let open = open_sound(t);
+    let table = is_sound(t, open);
     let summary = is_summed(t, m);
     Soundness { table, summary }
 }

@@ -7,10 +7,11 @@ use native.Mathlib.Omega.{arith}
 use borrow.Author.Tests.{ltb-false, leb-true, leb-false, eqb-true, eqb-false, le-leb, lt-leb}
 use lib.Dec.{eqb, ltb, leb}
 use lib.ListN.{length, take, drop, getD, length-drop, drop-of-length-le}
-use lib.Seq.{take-all, drop-nil, drop-drop}
+use lib.Seq.{take-all, drop-drop}
 use Rattle.rules.specs.General.{every}
 use Rattle.rules.specs.Soundness.{isZero}
 use Rattle.rules.proofs.Lists.{left}
+use Rattle.sound_free.proofs.Parts.{none-left, in-two}
 use Rattle.sound_open.specs.Filled.{mostOf, capped}
 
 -- the number of a list of octets
@@ -21,9 +22,6 @@ little (x ∷ l) = x + 256 * little l
 abbrev pub Octets : List ℕ → Type 0
 Octets [] = Unit {0}
 Octets (x ∷ l) = (x ≤ 255) × Octets l
-
-none-left : (m : ℕ) → every isZero (drop m []) ≡ true
-none-left m = ap (every isZero) (drop-nil m)
 
 -- the first octet, where none may be but zero, and where it may be anything
 first-nought : (x n : ℕ) → leb (x + 256 * n) 0 ≡ (eqb x 0 && leb n 0)
@@ -42,7 +40,7 @@ first-any x n m h = go (leb n m) refl
     go false k = let b = leb-false n m k in lt-leb (x + 256 * n) (255 + 256 * m) (omega arith)
 
 pub at-most : (l : List ℕ) (m : ℕ) → Octets l → leb (little l) (mostOf m) ≡ every isZero (drop m l)
-at-most [] m o = le-leb 0 (mostOf m) (omega arith) ∙ sym (none-left m)
+at-most [] m o = le-leb 0 (mostOf m) (omega arith) ∙ sym (none-left isZero m)
 at-most (x ∷ l) zero o = first-nought x (little l) ∙ ap (λ (b : Bool). eqb x 0 && b) (at-most l zero (o .1))
 at-most (x ∷ l) (suc m) o = first-any x (little l) (mostOf m) (o .0) ∙ at-most l m (o .1)
 
@@ -79,22 +77,13 @@ unfolding run
 run-is a i zero h = refl
 run-is a i (suc k) h = rw (left a 0 i (omega arith)) (ap {B = List ℕ} (λ (r : List ℕ). getD a i 0 ∷ r) (run-is a (i + 1) k (omega arith)))
 
--- zero from n on: of the first k, and of the others
-split : (k : ℕ) (l : List ℕ) (n : ℕ) → every isZero (drop n l) ≡ (every isZero (drop n (take k l)) && every isZero (drop (n - k) (drop k l)))
-split zero l n = let e : n - 0 ≡ n = omega arith in rw e (ap (λ (b : Bool). b && every isZero (drop n l)) (sym (none-left n)))
-split (suc k) [] n = none-left n ∙ sym (rw (none-left n) (none-left (n - suc k)))
-split (suc k) (x ∷ l) zero =
-    let e : 0 - suc k ≡ 0 - k = omega arith in
-    rw e (ap (λ (b : Bool). eqb x 0 && b) (split k l zero) ∙ sym (and-assoc (eqb x 0) (every isZero (take k l)) (every isZero (drop (0 - k) (drop k l)))))
-split (suc k) (x ∷ l) (suc n) = let e : suc n - suc k ≡ n - k = omega arith in rw e (split k l n)
-
 -- zeros behind a list
 padded : (l : List ℕ) (n : ℕ) → every isZero (drop n (l ++ (0 ∷ 0 ∷ 0 ∷ 0 ∷ []))) ≡ every isZero (drop n l)
 padded [] zero = refl
 padded [] (suc zero) = refl
 padded [] (suc (suc zero)) = refl
 padded [] (suc (suc (suc zero))) = refl
-padded [] (suc (suc (suc (suc n)))) = none-left n
+padded [] (suc (suc (suc (suc n)))) = none-left isZero n
 padded (x ∷ l) zero = ap (λ (b : Bool). eqb x 0 && b) (padded l zero)
 padded (x ∷ l) (suc n) = padded l n
 
@@ -114,7 +103,7 @@ in-three a n h =
     let rest : length (drop 16 a) ≤ 4 = rw (length-drop 16 a) (omega arith) in
     let four : take 4 (drop 16 a) ≡ drop 16 a = take-all 4 (drop 16 a) rest in
     rw all
-    (sym (split 8 a n
-    ∙ ap (λ (b : Bool). every isZero (drop n (take 8 a)) && b) (split 8 (drop 8 a) (n - 8))
+    (sym (in-two isZero 8 a n
+    ∙ ap (λ (b : Bool). every isZero (drop n (take 8 a)) && b) (in-two isZero 8 (drop 8 a) (n - 8))
     ∙ sym (and-assoc (every isZero (drop n (take 8 a))) (every isZero (drop (n - 8) (take 8 (drop 8 a)))) (every isZero (drop (n - 8 - 8) (drop 8 (drop 8 a)))))
     ∙ rw (back, drop-drop 8 8 a, ← run-is a 0 8 (omega arith), ← run-is a 8 8 (omega arith), ← four, ← run-is a 16 4 (omega arith), ← padded (run a 16 4) (n - 16))))

@@ -4,12 +4,13 @@ use rules::Entry;
 use rules::Place;
 ghost use mathlib.Core.Path.{_≡_};
 ghost use mathlib.Core.List.{[], _∷_, map};
-ghost use Prim.Native.Nat.{_-_, _≤_};
+ghost use Prim.Native.Nat.{_-_, _*_, _≤_};
 ghost use lib.ListN.{take, drop};
 ghost use Rattle.rules.specs.General.{every, those};
 ghost use Rattle.rules.specs.Places.{isOpen};
 ghost use Rattle.rules.specs.Soundness.{isZero, addressSound, openSound};
-ghost use Rattle.sound_open.specs.Digest.{digest};
+ghost use Rattle.sound_free.specs.Weights.{wordMost};
+ghost use Rattle.sound_open.specs.Digest.{headOf, digest};
 ghost use Rattle.sound_open.specs.Filled.{mostOf, capped};
 ghost use Rattle.sound_open.specs.Open.{soundIfOpen};
 
@@ -60,7 +61,7 @@ fn address_sound(kind: u8, a: Address) -> bool
     (a.length <= 20) & filled & (!(kind == 1) | (a.length == 0))
 }
 
-// Whether an open place is sound.
+// Whether an open place is sound. Addresses are looked at only where the numbers are sound: so fewer values are kept at a time.
 fn open_sound(registry: [Entry; 8], timer: u32, clock: u32, p: Place) -> bool
     ensures { λ r. ⌜ r ≡ openSound registry timer clock p ⌝ }
 {
@@ -75,12 +76,15 @@ fn open_sound(registry: [Entry; 8], timer: u32, clock: u32, p: Place) -> bool
         & (1 <= p.segments)
         & (sum <= 10)
         & (p.octets <= 2048);
-    let origin = p.key.origin;
-    let destination = p.key.destination;
-    let from = address_sound(kind, origin);
-    let to = address_sound(kind, destination);
-    let young = table::elapsed(clock, p.start) < timer;
-    numbers & from & to & young
+    if numbers {
+        let origin = p.key.origin;
+        let destination = p.key.destination;
+        let from = address_sound(kind, origin);
+        let to = address_sound(kind, destination);
+        let young = table::elapsed(clock, p.start) < timer;
+        return from & to & young;
+    }
+    false
 }
 
 // What is seen of the open places: their digests, one after the other, and whether each is sound.
@@ -90,16 +94,26 @@ pub struct Seen {
     pub sound: bool,
 }
 
-// What tells most open places apart, as one number: of the key all but the octets of its addresses, and of those of the destination a remainder, so that two exchanges differ.
+// What the first eight octets of an address are, roughly: they tell most addresses apart.
+fn head(a: [u8; 20]) -> u64
+    ensures { λ r. ⌜ r ≡ headOf a ⌝ }
+    ensures { λ r. ⌜ r ≤ 2 * wordMost ⌝ }
+{
+    sound_free::word(a[0], a[1], a[2], a[3]) + sound_free::word(a[4], a[5], a[6], a[7])
+}
+
+// What tells most open places apart, as one number. Any number of the key would do; this is the key but for its addresses' octets, with the first eight of each mixed in.
 fn digest_of(p: Place) -> u64
     ensures { λ r. ⌜ r ≡ digest p ⌝ }
 {
     let names = (p.key.association as u64) * 65536 + (p.key.context.0 as u64);
     let lengths = (p.key.origin.length as u64) * 256 + (p.key.destination.length as u64);
+    let origin = p.key.origin;
+    let from = origin.octets;
     let destination = p.key.destination;
-    let octets = destination.octets;
-    let mix = sound_free::octets_weight(octets) % 251;
-    (names * 256 + (p.key.reference.0 as u64)) * 65536 + lengths + 72057594037927936 * mix
+    let to = destination.octets;
+    let mix = head(to) + 2 * head(from);
+    (names * 256 + (p.key.reference.0 as u64)) * 65536 + lengths + 40503 * mix
 }
 
 // The open places in one go.

@@ -1,20 +1,11 @@
--- Numbers taken together by `|`: what holds of the one is what holds of each.
+-- Numbers joined by `|`: what holds of the one is what holds of each.
 use Prim.Native.Nat.{ℕ, _+_, _<_, _^_}
 use mathlib.Core.Path.{_≡_, refl}
 use mathlib.Core.Bool.{Bool, true, false, _&&_}
 use native.Mathlib.Omega.{arith}
-use borrow.Author.Tests.{eqb-true, eqb-false, eq-eqb, ne-eqb, leb-true, leb-false, le-leb, lt-leb}
-use lib.Dec.{eqb, leb}
+use borrow.Author.Tests.{leb-true, leb-false, le-leb, lt-leb}
+use lib.Dec.{leb}
 use lib.Bits.{bitOr, or-add-and, and-le-l, and-le-r, or-lt}
-
--- zero where both are
-pub or-zero : (a b : ℕ) → eqb (bitOr a b) 0 ≡ (eqb a 0 && eqb b 0)
-or-zero a b = go (eqb a 0) refl (eqb b 0) refl
-  where
-    go : (x : Bool) → eqb a 0 ≡ x → (y : Bool) → eqb b 0 ≡ y → eqb (bitOr a b) 0 ≡ (x && y)
-    go true e true f = eq-eqb (bitOr a b) 0 (omega (arith, or-add-and a b, eqb-true a 0 e, eqb-true b 0 f))
-    go true e false f = ne-eqb (bitOr a b) 0 (λ z. eqb-false b 0 f (omega (arith, or-add-and a b, and-le-l a b, and-le-r a b)))
-    go false e y f = ne-eqb (bitOr a b) 0 (λ z. eqb-false a 0 e (omega (arith, or-add-and a b, and-le-l a b, and-le-r a b)))
 
 -- below a power of two where both are
 pub or-below : (k a b : ℕ) (most : ℕ) → most + 1 ≡ 2 ^ k → leb (bitOr a b) most ≡ (leb a most && leb b most)

@@ -13,7 +13,7 @@ use Rattle.rules.specs.Summary.{everyBelow, rowCount, numberAt, isUsed, isUnuse
 use Rattle.rules.proofs.Below.{below-same, below-at}
 use Rattle.rules.proofs.Rows.{row-count}
 use Rattle.sound_rows.specs.Listing.{ofThose, lowOf, nameFits, EmptyFrom}
-use Rattle.sound_rows.proofs.Bits.{or-zero}
+use Rattle.rules.proofs.Nought.{or-nought}
 
 module _ (m : List ℕ) where
   -- one row more
@@ -22,10 +22,10 @@ module _ (m : List ℕ) where
   empty-more at i rest x so-far bare e row h k = go (eqb row i) refl
     where
       both : (eqb (bitOr (numberAt m 0 i) x) 0 ≡ true) × (eqb rest 0 ≡ true)
-      both = and-eq-true-iff _ _ .0 (sym (or-zero (bitOr (numberAt m 0 i) x) rest) ∙ e)
+      both = and-eq-true-iff _ _ .0 (sym (or-nought (bitOr (numberAt m 0 i) x) rest) ∙ e)
 
       here : (isUnused m i && isBare m i) ≡ true
-      here = rw (← bare) (sym (or-zero (numberAt m 0 i) x) ∙ both .0)
+      here = rw (← bare) (sym (or-nought (numberAt m 0 i) x) ∙ both .0)
 
       go : (b : Bool) → eqb row i ≡ b → (isUnused m row && isBare m row) ≡ true
       go true s = rw (eqb-true row i s) here

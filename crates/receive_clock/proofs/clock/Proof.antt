@@ -10,6 +10,12 @@ use borrow.Author.Needs.{needs}
 use Rattle.receive_clock.proofs.clock.Statement.{statement}
 use Rattle.receive_clock.proofs.clock.Tie as tie
 
+any-due-requires : tie.Need-any-due-requires
+any-due-requires c κs = search needs
+
+open-sound-requires : tie.Need-open-sound-requires
+open-sound-requires c κs = search needs
+
 is-sound-requires : tie.Need-is-sound-requires
 is-sound-requires c κs = search needs
 
@@ -30,7 +36,7 @@ returns c =
     let j = c .before .before in
     let o = j .before .before in
     let h = o .before .before in
-    let a = h .before .before .args in
+    let a = h .before .before .before .before .args in
     let is = clock-is (a .t) (a .m .now) (a .report .now) (h .is-sound .ensures) (o .is-summed .ensures) (j .judge .ensures) (a .time) in
     let e = ne-eqb _ _ (c .before .if1 .taken) in
     record { answered = rw is (simp e (c .refused .ensures)); summed = rw is (simp e); reported = rw is (simp e) }
@@ -50,14 +56,11 @@ returns-2 c =
     let j = k .before .before in
     let o = j .before .before in
     let h = o .before .before in
-    let a = h .before .before .args in
+    let a = h .before .before .before .before .args in
     let is = clock-is (a .t) (a .m .now) (a .report .now) (h .is-sound .ensures) (o .is-summed .ensures) (j .judge .ensures) (a .time) in
     let e = eq-eqb _ _ (k .before .if1 .left) in
     let f = le-leb (2 ^ 31) (elapsed (a .time) (a .t .clock)) (omega (arith, k .elapsed .ensures)) in
     record { answered = rw is (simp (e, f) (c .refused2 .ensures)); summed = rw is (simp (e, f)); reported = rw is (simp (e, f)) }
-
-any-due-requires : tie.Need-any-due-requires
-any-due-requires c κs = search needs
 
 passed-requires : tie.Need-passed-requires
 passed-requires c κs = search needs
@@ -67,16 +70,15 @@ same-length-3 c = search needs
 
 returns-3 : tie.Need-returns-3
 returns-3 c =
-    let d = c .before .before in
-    let k = d .before .before in
+    let k = c .before .before .before in
     let j = k .before .before in
     let o = j .before .before in
     let h = o .before .before in
-    let a = h .before .before .args in
+    let a = h .before .before .before .before .args in
     let is = clock-is (a .t) (a .m .now) (a .report .now) (h .is-sound .ensures) (o .is-summed .ensures) (j .judge .ensures) (a .time) in
     let e = eq-eqb _ _ (k .before .if1 .left) in
     let f = lt-leb (2 ^ 31) (elapsed (a .time) (a .t .clock)) (omega (arith, k .elapsed .ensures)) in
-    let none = none-is (Aged (a .time) (a .t .timer)) (a .time) (a .t) (a .m .now) (a .report .now) (sym (d .any-due .ensures) ∙ not-true _ (c .before .if3 .taken)) in
+    let none = none-is (Aged (a .time) (a .t .timer)) (a .time) (a .t) (a .m .now) (a .report .now) (sym (h .before .before .any-due .ensures) ∙ not-true _ (c .before .if3 .taken)) in
     record { answered = rw is (simp (e, f) (rw none (c .passed .ensures))); summed = rw is (simp (e, f) (rw none)); reported = rw is (simp (e, f) (rw none)) }
 
 lose-requires : tie.Need-lose-requires
@@ -88,12 +90,12 @@ same-length-4 c = search needs
 returns-4 : tie.Need-returns-4
 returns-4 c =
     let s = c .before .before in
-    let l = s .before .before .before .before .before in
+    let l = s .before .before .before .before in
     let k = l .before in
     let j = k .before .before in
     let o = j .before .before in
     let h = o .before .before in
-    let a = h .before .before .args in
+    let a = h .before .before .before .before .args in
     let is = clock-is (a .t) (a .m .now) (a .report .now) (h .is-sound .ensures) (o .is-summed .ensures) (j .judge .ensures) (a .time) in
     let e = eq-eqb _ _ (k .before .if1 .left) in
     let f = lt-leb (2 ^ 31) (elapsed (a .time) (a .t .clock)) (omega (arith, k .elapsed .ensures, l .if2 .left)) in
@@ -103,6 +105,8 @@ pub clock-spec : {M : Type 1} → statement M
 clock-spec =
     tie.close
     (tie.spec
+    any-due-requires
+    open-sound-requires
     is-sound-requires
     is-summed-requires
     judge-requires
@@ -113,7 +117,6 @@ clock-spec =
     refused-requires-2
     same-length-2
     returns-2
-    any-due-requires
     passed-requires
     same-length-3
     returns-3

@@ -7,6 +7,12 @@ use borrow.Author.Needs.{needs}
 use Rattle.receive_clock.proofs.release.Statement.{statement}
 use Rattle.receive_clock.proofs.release.Tie as tie
 
+any-due-requires : tie.Need-any-due-requires
+any-due-requires c κs = search needs
+
+open-sound-requires : tie.Need-open-sound-requires
+open-sound-requires c κs = search needs
+
 is-sound-requires : tie.Need-is-sound-requires
 is-sound-requires c κs = search needs
 
@@ -27,13 +33,10 @@ returns c =
     let j = c .before .before in
     let o = j .before .before in
     let h = o .before .before in
-    let a = h .before .before .args in
+    let a = h .before .before .before .before .args in
     let is = release-is (a .t) (a .m .now) (a .report .now) (h .is-sound .ensures) (o .is-summed .ensures) (j .judge .ensures) (a .association) in
     let e = ne-eqb _ _ (c .before .if1 .taken) in
     record { answered = rw is (simp e (c .refused .ensures)); summed = rw is (simp e); reported = rw is (simp e) }
-
-any-due-requires : tie.Need-any-due-requires
-any-due-requires c κs = search needs
 
 passed-requires : tie.Need-passed-requires
 passed-requires c κs = search needs
@@ -43,15 +46,14 @@ same-length-2 c = search needs
 
 returns-2 : tie.Need-returns-2
 returns-2 c =
-    let d = c .before .before in
-    let i = d .before in
+    let i = c .before .before in
     let j = i .before in
     let o = j .before .before in
     let h = o .before .before in
-    let a = h .before .before .args in
+    let a = h .before .before .before .before .args in
     let is = release-is (a .t) (a .m .now) (a .report .now) (h .is-sound .ensures) (o .is-summed .ensures) (j .judge .ensures) (a .association) in
     let e = eq-eqb _ _ (i .if1 .left) in
-    let none = none-is (Of (a .association)) (a .t .clock) (a .t) (a .m .now) (a .report .now) (sym (d .any-due .ensures) ∙ not-true _ (c .before .if2 .taken)) in
+    let none = none-is (Of (a .association)) (a .t .clock) (a .t) (a .m .now) (a .report .now) (sym (h .before .before .any-due .ensures) ∙ not-true _ (c .before .if2 .taken)) in
     record { answered = rw is (simp e (rw none (c .passed .ensures))); summed = rw is (simp e (rw none)); reported = rw is (simp e (rw none)) }
 
 lose-requires : tie.Need-lose-requires
@@ -63,11 +65,11 @@ same-length-3 c = search needs
 returns-3 : tie.Need-returns-3
 returns-3 c =
     let s = c .before .before in
-    let i = s .before .before .before .before .before in
+    let i = s .before .before .before .before in
     let j = i .before in
     let o = j .before .before in
     let h = o .before .before in
-    let a = h .before .before .args in
+    let a = h .before .before .before .before .args in
     let is = release-is (a .t) (a .m .now) (a .report .now) (h .is-sound .ensures) (o .is-summed .ensures) (j .judge .ensures) (a .association) in
     let e = eq-eqb _ _ (i .if1 .left) in
     record { answered = rw is (simp e (s .lose .ensures .0)); summed = rw is (simp e (s .lose .ensures .1 .0)); reported = rw is (simp e (s .lose .ensures .1 .1)) }
@@ -76,13 +78,14 @@ pub release-spec : {M : Type 1} → statement M
 release-spec =
     tie.close
     (tie.spec
+    any-due-requires
+    open-sound-requires
     is-sound-requires
     is-summed-requires
     judge-requires
     refused-requires
     same-length
     returns
-    any-due-requires
     passed-requires
     same-length-2
     returns-2

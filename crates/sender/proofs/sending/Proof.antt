@@ -11,22 +11,25 @@ use Rattle.sender.proofs.sending.Statement.{statement}
 use Rattle.sender.proofs.sending.Tie as tie
 
 -- the number of what is asked, by the rules' own table and kind
-asks-is : (c : tie.After-request-refusal) → c .request-refusal .result ≡ first (requestChecks (sound (c .before .before .before .before .before .before .before .before .before .args .t)) (kindOf (c .before .before .before .before .before .before .before .before .before .args .t .registry) (c .before .before .before .before .before .before .before .before .before .args .q .context .0)) (c .before .before .before .before .before .before .before .before .before .args .q) (length (c .before .before .before .before .before .before .before .before .before .args .origin .now)) (length (c .before .before .before .before .before .before .before .before .before .args .destination .now)) (length (c .before .before .before .before .before .before .before .before .before .args .whole .now)))
-asks-is c = c .request-refusal .ensures ∙ rw (c .before .is-sound .ensures, c .before .before .kind-of .ensures)
+asks-is : (c : tie.After-request-refusal) → c .request-refusal .result ≡ first (requestChecks (sound (c .before .before .before .before .before .before .before .before .before .before .args .t)) (kindOf (c .before .before .before .before .before .before .before .before .before .before .args .t .registry) (c .before .before .before .before .before .before .before .before .before .before .args .q .context .0)) (c .before .before .before .before .before .before .before .before .before .before .args .q) (length (c .before .before .before .before .before .before .before .before .before .before .args .origin .now)) (length (c .before .before .before .before .before .before .before .before .before .before .args .destination .now)) (length (c .before .before .before .before .before .before .before .before .before .before .args .whole .now)))
+asks-is c = c .request-refusal .ensures ∙ rw (c .before .before .before .before .is-sound .ensures, c .before .kind-of .ensures)
 
 -- what is asked fits, where it is not refused
-asked-at : (c : tie.Else1) → Asked (c .before .before .is-sound .result) (c .before .before .before .kind-of .result) (c .before .before .before .before .before .before .before .before .before .before .args .q) (length (c .before .before .before .before .before .before .before .before .before .before .args .origin .now)) (length (c .before .before .before .before .before .before .before .before .before .before .args .destination .now)) (length (c .before .before .before .before .before .before .before .before .before .before .args .whole .now))
+asked-at : (c : tie.Else1) → Asked (c .before .before .before .before .before .is-sound .result) (c .before .before .kind-of .result) (c .before .before .before .before .before .before .before .before .before .before .before .args .q) (length (c .before .before .before .before .before .before .before .before .before .before .before .args .origin .now)) (length (c .before .before .before .before .before .before .before .before .before .before .before .args .destination .now)) (length (c .before .before .before .before .before .before .before .before .before .before .before .args .whole .now))
 asked-at c = asked _ _ _ _ _ _ (sym (c .before .request-refusal .ensures) ∙ c .if1 .left)
 
 -- h is the rules'
-header-at : (c : tie.After-header-length) → c .header-length .result ≡ headerLength (kindOf (c .before .before .before .before .before .before .before .before .before .before .before .args .t .registry) (c .before .before .before .before .before .before .before .before .before .before .before .args .q .context .0)) (c .before .before .before .before .before .before .before .before .before .before .before .args .q .context .0) (c .before .before .before .before .before .before .before .before .before .before .before .args .origin .now) (c .before .before .before .before .before .before .before .before .before .before .before .args .destination .now)
-header-at c = c .header-length .ensures .0 ∙ sym (header-is (c .before .before .before .before .kind-of .result) (c .before .before .before .before .before .before .before .before .before .before .before .args .q .context .0) (c .before .before .before .before .before .before .before .before .before .before .before .args .origin .now) (c .before .before .before .before .before .before .before .before .before .before .before .args .destination .now)) ∙ rw (c .before .before .before .before .kind-of .ensures)
+header-at : (c : tie.After-header-length) → c .header-length .result ≡ headerLength (kindOf (c .before .before .before .before .before .before .before .before .before .before .before .before .args .t .registry) (c .before .before .before .before .before .before .before .before .before .before .before .before .args .q .context .0)) (c .before .before .before .before .before .before .before .before .before .before .before .before .args .q .context .0) (c .before .before .before .before .before .before .before .before .before .before .before .before .args .origin .now) (c .before .before .before .before .before .before .before .before .before .before .before .before .args .destination .now)
+header-at c = c .header-length .ensures .0 ∙ sym (header-is (c .before .before .before .kind-of .result) (c .before .before .before .before .before .before .before .before .before .before .before .before .args .q .context .0) (c .before .before .before .before .before .before .before .before .before .before .before .before .args .origin .now) (c .before .before .before .before .before .before .before .before .before .before .before .before .args .destination .now)) ∙ rw (c .before .before .before .kind-of .ensures)
 
-kind-of-requires : tie.Need-kind-of-requires
-kind-of-requires c κs = search needs
+open-sound-requires : tie.Need-open-sound-requires
+open-sound-requires c κs = search needs
 
 is-sound-requires : tie.Need-is-sound-requires
 is-sound-requires c κs = search needs
+
+kind-of-requires : tie.Need-kind-of-requires
+kind-of-requires c κs = search needs
 
 request-refusal-requires : tie.Need-request-refusal-requires
 request-refusal-requires c κs = search needs
@@ -56,17 +59,17 @@ emit-requires : tie.Need-emit-requires
 emit-requires c κs =
     let h = c .before .before .before .before .before in
     let r = h .before .before in
-    let a = r .before .before .before .before .before .before .before .before .before .args in
+    let a = r .before .before .before .before .before .before .before .before .before .before .args in
     let z = asked-at (h .before) in
-    let k = r .before .before .kind-of .ensures in
+    let k = r .before .kind-of .ensures in
     record {
       possible = rw (c .before .before .p .given .1) at (c .before .before .before .before .cut .ensures .1);
-      header = h .header-length .ensures .0 ∙ sym (header-is (r .before .before .kind-of .result) (a .q .context .0) (a .origin .now) (a .destination .now));
+      header = h .header-length .ensures .0 ∙ sym (header-is (r .before .kind-of .result) (a .q .context .0) (a .origin .now) (a .destination .now));
       short = h .header-length .ensures .1;
       origin = z .origin;
       destination = z .destination;
       size = z .size;
-      context = context-fits (a .t) (a .q .context .0) (sym (r .before .is-sound .ensures) ∙ z .table) (λ e. z .registered (k ∙ e));
+      context = context-fits (a .t) (a .q .context .0) (sym (r .before .before .before .before .is-sound .ensures) ∙ z .table) (λ e. z .registered (k ∙ e));
       instruction = z .instruction;
       reference = z .reference;
     }
@@ -89,14 +92,15 @@ returns-3 c =
     let h = u .before in
     let r = h .before .before in
     is-cut _ _ _ _ _ _ _ _ _ (sym (asks-is r) ∙ h .before .if1 .left) (sym (u .cut .ensures .0 ∙ rw (header-at h)) ∙ p .p .given .1)
-    (rw (r .before .before .kind-of .ensures) at (m .emit .ensures))
+    (rw (r .before .kind-of .ensures) at (m .emit .ensures))
 
 pub sending-spec : {M : Type 1} → statement M
 sending-spec =
     tie.close
     (tie.spec
-    kind-of-requires
+    open-sound-requires
     is-sound-requires
+    kind-of-requires
     request-refusal-requires
     returns
     header-length-requires

@@ -12,10 +12,10 @@ use Rattle.sound.proofs.all_differ.Statement.{statement}
 use Rattle.sound.proofs.all_differ.Tie as tie
 
 abbrev Inv-loop : tie.InvT-loop
-Inv-loop n digests i₀ i = everyTwo isOther (take n digests) ≡ everyTwo isOther (drop i (take n digests))
+Inv-loop digests n i₀ i = everyTwo isOther (take n digests) ≡ everyTwo isOther (drop i (take n digests))
 
 abbrev μ-loop : tie.MeasureT-loop
-μ-loop n digests i₀ i = n - i
+μ-loop digests n i₀ i = n - i
 
 loop-holds : tie.Need-loop-holds Inv-loop μ-loop
 loop-holds c = refl
@@ -23,8 +23,8 @@ loop-holds c = refl
 mul-d : tie.Need-mul-d Inv-loop μ-loop
 mul-d c = omega arith
 
-array-read-d : tie.Need-array-read-d Inv-loop μ-loop
-array-read-d c = omega arith
+shared-slice-read-d : tie.Need-shared-slice-read-d Inv-loop μ-loop
+shared-slice-read-d c = omega arith
 
 add-i : tie.Need-add-i Inv-loop μ-loop
 add-i c = omega arith
@@ -34,26 +34,26 @@ differs-from-requires c κs = search needs
 
 returns : tie.Need-returns Inv-loop μ-loop
 returns c =
-    let l = c .before .before .before in
-    let a = l .before .args in
-    two-fail isOther (take (a .n) (a .t1)) 0 (l .loop .i) _ (l .loop .inv) (omega (arith, length-take-le (a .n) (a .t1) (omega arith)))
-    (rw (getD-take (a .n) (a .t1) (l .loop .i) 0 (omega arith)) (sym (c .before .differs-from .ensures) ∙ not-true _ (c .if1 .taken)))
+    let l = c .before .before .before .before in
+    let a = l .before .before .args in
+    two-fail isOther (take (a .n) (a .digests .now)) 0 (l .loop .i) _ (l .loop .inv) (omega (arith, length-take-le (a .n) (a .digests .now) (omega arith)))
+    (rw (getD-take (a .n) (a .digests .now) (l .loop .i) 0 (omega arith)) (sym (c .before .differs-from .ensures) ∙ not-true _ (c .if1 .taken)))
 
 loop-less : tie.Need-loop-less Inv-loop μ-loop
 loop-less c = omega arith
 
 loop-again : tie.Need-loop-again Inv-loop μ-loop
 loop-again c =
-    let l = c .before .before .before in
-    let a = l .before .args in
-    two-go isOther (take (a .n) (a .t1)) 0 (l .loop .i) _ (l .loop .inv) (omega (arith, length-take-le (a .n) (a .t1) (omega arith)))
-    (rw (getD-take (a .n) (a .t1) (l .loop .i) 0 (omega arith)) (sym (c .before .differs-from .ensures) ∙ not-false _ (c .if1 .left)))
+    let l = c .before .before .before .before in
+    let a = l .before .before .args in
+    two-go isOther (take (a .n) (a .digests .now)) 0 (l .loop .i) _ (l .loop .inv) (omega (arith, length-take-le (a .n) (a .digests .now) (omega arith)))
+    (rw (getD-take (a .n) (a .digests .now) (l .loop .i) 0 (omega arith)) (sym (c .before .differs-from .ensures) ∙ not-false _ (c .if1 .left)))
 
 returns-2 : tie.Need-returns-2 Inv-loop μ-loop
 returns-2 c =
     let l = c .before in
-    let a = l .before .args in
-    two-end isOther (take (a .n) (a .t1)) 0 (l .loop .i) _ (l .loop .inv) (omega (arith, length-take-le (a .n) (a .t1) (omega arith)))
+    let a = l .before .before .args in
+    two-end isOther (take (a .n) (a .digests .now)) 0 (l .loop .i) _ (l .loop .inv) (omega (arith, length-take-le (a .n) (a .digests .now) (omega arith)))
 
 pub all-differ-spec : {M : Type 1} → statement M
 all-differ-spec =
@@ -63,7 +63,7 @@ all-differ-spec =
     μ-loop
     loop-holds
     mul-d
-    array-read-d
+    shared-slice-read-d
     add-i
     differs-from-requires
     returns

@@ -12,10 +12,10 @@ use Rattle.sound.proofs.differs_from.Statement.{statement}
 use Rattle.sound.proofs.differs_from.Tie as tie
 
 abbrev Inv-loop : tie.InvT-loop
-Inv-loop at n d digests i₀ i = every (isOther d) (drop at (take n digests)) ≡ every (isOther d) (drop i (take n digests))
+Inv-loop digests at n d i₀ i = every (isOther d) (drop at (take n digests)) ≡ every (isOther d) (drop i (take n digests))
 
 abbrev μ-loop : tie.MeasureT-loop
-μ-loop at n d digests i₀ i = n - i
+μ-loop digests at n d i₀ i = n - i
 
 loop-holds : tie.Need-loop-holds Inv-loop μ-loop
 loop-holds c = refl
@@ -23,15 +23,15 @@ loop-holds c = refl
 mul-if1 : tie.Need-mul-if1 Inv-loop μ-loop
 mul-if1 c = omega arith
 
-array-read-if1 : tie.Need-array-read-if1 Inv-loop μ-loop
-array-read-if1 c = omega arith
+shared-slice-read-if1 : tie.Need-shared-slice-read-if1 Inv-loop μ-loop
+shared-slice-read-if1 c = omega arith
 
 returns : tie.Need-returns Inv-loop μ-loop
 returns c =
-    let l = c .before .before in
+    let l = c .before .before .before in
     let a = l .before .args in
-    every-fails (isOther (a .d)) (take (a .n) (a .t1)) 0 (l .loop .i) _ (l .loop .inv) (omega (arith, length-take-le (a .n) (a .t1) (omega arith)))
-    (rw (getD-take (a .n) (a .t1) (l .loop .i) 0 (omega arith)) (ap not (eq-eqb _ _ (c .if1 .taken))))
+    every-fails (isOther (a .d)) (take (a .n) (a .digests .now)) 0 (l .loop .i) _ (l .loop .inv) (omega (arith, length-take-le (a .n) (a .digests .now) (omega arith)))
+    (rw (getD-take (a .n) (a .digests .now) (l .loop .i) 0 (omega arith)) (ap not (eq-eqb _ _ (c .if1 .taken))))
 
 add-i : tie.Need-add-i Inv-loop μ-loop
 add-i c = omega arith
@@ -41,16 +41,16 @@ loop-less c = omega arith
 
 loop-again : tie.Need-loop-again Inv-loop μ-loop
 loop-again c =
-    let l = c .before .before in
+    let l = c .before .before .before in
     let a = l .before .args in
-    every-goes (isOther (a .d)) (take (a .n) (a .t1)) 0 (l .loop .i) _ (l .loop .inv) (omega (arith, length-take-le (a .n) (a .t1) (omega arith)))
-    (rw (getD-take (a .n) (a .t1) (l .loop .i) 0 (omega arith)) (ap not (ne-eqb _ _ (c .if1 .left))))
+    every-goes (isOther (a .d)) (take (a .n) (a .digests .now)) 0 (l .loop .i) _ (l .loop .inv) (omega (arith, length-take-le (a .n) (a .digests .now) (omega arith)))
+    (rw (getD-take (a .n) (a .digests .now) (l .loop .i) 0 (omega arith)) (ap not (ne-eqb _ _ (c .if1 .left))))
 
 returns-2 : tie.Need-returns-2 Inv-loop μ-loop
 returns-2 c =
     let l = c .before in
     let a = l .before .args in
-    every-ends (isOther (a .d)) (take (a .n) (a .t1)) 0 (l .loop .i) _ (l .loop .inv) (omega (arith, length-take-le (a .n) (a .t1) (omega arith)))
+    every-ends (isOther (a .d)) (take (a .n) (a .digests .now)) 0 (l .loop .i) _ (l .loop .inv) (omega (arith, length-take-le (a .n) (a .digests .now) (omega arith)))
 
 pub differs-from-spec : {M : Type 1} → statement M
 differs-from-spec =
@@ -60,7 +60,7 @@ differs-from-spec =
     μ-loop
     loop-holds
     mul-if1
-    array-read-if1
+    shared-slice-read-if1
     returns
     add-i
     loop-less

@@ -20,22 +20,13 @@ abbrev μ-loop : tie.MeasureT-loop
 loop-holds : tie.Need-loop-holds Inv-loop μ-loop
 loop-holds c = refl
 
-mul-p : tie.Need-mul-p Inv-loop μ-loop
-mul-p c = omega arith
-
-array-copy-out-p : tie.Need-array-copy-out-p Inv-loop μ-loop
-array-copy-out-p c = omega arith
-
-add-apart-from : tie.Need-add-apart-from Inv-loop μ-loop
-add-apart-from c = omega arith
-
 apart-from-requires : tie.Need-apart-from-requires Inv-loop μ-loop
 apart-from-requires c κs = search needs
 
 returns : tie.Need-returns Inv-loop μ-loop
 returns c =
-    let l = c .before .before .before .before in
-    two-fail placesApart (l .before .args .t1) noPlace (l .loop .i) _ (l .loop .inv) (omega arith) (sym (c .before .apart-from .ensures) ∙ not-true _ (c .if1 .taken))
+    let l = c .before .before .before in
+    two-fail placesApart (l .before .args .places) noPlace (l .loop .i) _ (l .loop .inv) (omega arith) (sym (c .before .apart-from .ensures) ∙ not-true _ (c .if1 .taken))
 
 add-i : tie.Need-add-i Inv-loop μ-loop
 add-i c = omega arith
@@ -45,13 +36,13 @@ loop-less c = omega arith
 
 loop-again : tie.Need-loop-again Inv-loop μ-loop
 loop-again c =
-    let l = c .before .before .before .before in
-    two-go placesApart (l .before .args .t1) noPlace (l .loop .i) _ (l .loop .inv) (omega arith) (sym (c .before .apart-from .ensures) ∙ not-false _ (c .if1 .left))
+    let l = c .before .before .before in
+    two-go placesApart (l .before .args .places) noPlace (l .loop .i) _ (l .loop .inv) (omega arith) (sym (c .before .apart-from .ensures) ∙ not-false _ (c .if1 .left))
 
 returns-2 : tie.Need-returns-2 Inv-loop μ-loop
 returns-2 c =
     let l = c .before in
-    two-end placesApart (l .before .args .t1) noPlace (l .loop .i) _ (l .loop .inv) (omega arith)
+    two-end placesApart (l .before .args .places) noPlace (l .loop .i) _ (l .loop .inv) (omega arith)
 
 pub keys-apart-spec : {M : Type 1} → statement M
 keys-apart-spec =
@@ -60,9 +51,6 @@ keys-apart-spec =
     Inv-loop
     μ-loop
     loop-holds
-    mul-p
-    array-copy-out-p
-    add-apart-from
     apart-from-requires
     returns
     add-i

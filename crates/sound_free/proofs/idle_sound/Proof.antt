@@ -1,72 +1,22 @@
-use Prim.Native.Nat.{_-_, _*_, _≤_}
-use mathlib.Core.Path.{_≡_, refl}
-use mathlib.Core.Bool.{_&&_}
-use lib.Dec.{eqb}
-use lib.ListN.{drop}
-use native.Mathlib.Omega.{arith}
+use mathlib.Core.Path.{sym}
 use borrow.Author.Needs.{needs}
-use Rattle.rules.specs.General.{every}
-use Rattle.rules.specs.Places.{noPlace}
-use Rattle.rules.proofs.Along.{every-so-far, every-over}
-use Rattle.sound_free.specs.Weights.{placeMost}
+use Rattle.rules.proofs.Nought.{or-nought}
 use Rattle.sound_free.specs.Idle.{soundIfIdle}
-use Rattle.rules.proofs.Nought.{sum-nought}
+use Rattle.sound_free.proofs.Parts.{in-two}
 use Rattle.sound_free.proofs.idle_sound.Statement.{statement}
 use Rattle.sound_free.proofs.idle_sound.Tie as tie
 
-abbrev Inv-loop : tie.InvT-loop
-Inv-loop places sum₀ i₀ sum i = (every soundIfIdle places ≡ (eqb sum 0 && every soundIfIdle (drop i places))) × (sum ≤ placeMost * i)
+lower-weight-requires : tie.Need-lower-weight-requires
+lower-weight-requires c κs = search needs
 
-abbrev μ-loop : tie.MeasureT-loop
-μ-loop places sum₀ i₀ sum i = 16 - i
+upper-weight-requires : tie.Need-upper-weight-requires
+upper-weight-requires c κs = search needs
 
-loop-holds : tie.Need-loop-holds Inv-loop μ-loop
-loop-holds c = (refl, omega arith)
-
-mul-p : tie.Need-mul-p Inv-loop μ-loop
-mul-p c = omega arith
-
-array-copy-out-p : tie.Need-array-copy-out-p Inv-loop μ-loop
-array-copy-out-p c = omega arith
-
-idle-weight-requires : tie.Need-idle-weight-requires Inv-loop μ-loop
-idle-weight-requires c κs = search needs
-
-add-sum : tie.Need-add-sum Inv-loop μ-loop
-add-sum c = omega (arith, c .idle-weight .ensures .1)
-
-add-i : tie.Need-add-i Inv-loop μ-loop
-add-i c = omega arith
-
-loop-less : tie.Need-loop-less Inv-loop μ-loop
-loop-less c = omega arith
-
-loop-again : tie.Need-loop-again Inv-loop μ-loop
-loop-again c =
-    let l = c .before .before .before in
-    let w = c .idle-weight in (
-      rw (sum-nought (l .loop .sum) (w .result))
-          (every-so-far soundIfIdle (l .before .args .t1) noPlace (l .loop .i) _ (eqb (l .loop .sum) 0) (l .loop .inv .0) _ (omega arith) (w .ensures .0)),
-      omega (arith, w .ensures .1, l .loop .inv .1),
-    )
-
-returns : tie.Need-returns Inv-loop μ-loop
+returns : tie.Need-returns
 returns c =
     let l = c .before in
-    every-over soundIfIdle (l .before .args .t1) noPlace (l .loop .i) _ (eqb (l .loop .sum) 0) (l .loop .inv .0) (omega arith)
+    rw (or-nought (l .lower-weight .result) (c .upper-weight .result), l .lower-weight .ensures, c .upper-weight .ensures)
+    (sym (in-two soundIfIdle 8 (l .before .args .places) 0))
 
 pub idle-sound-spec : {M : Type 1} → statement M
-idle-sound-spec =
-    tie.close
-    (tie.spec
-    Inv-loop
-    μ-loop
-    loop-holds
-    mul-p
-    array-copy-out-p
-    idle-weight-requires
-    add-sum
-    add-i
-    loop-less
-    loop-again
-    returns)
+idle-sound-spec = tie.close (tie.spec lower-weight-requires upper-weight-requires returns)

@@ -8,12 +8,10 @@ weight-requires : tie.Need-weight-requires
 weight-requires c κs = search needs
 
 returns : tie.Need-returns
-returns c = (simp (c .if1 .taken), search needs)
+returns c = simp (c .if1 .taken)
 
 returns-2 : tie.Need-returns-2
-returns-2 c =
-    let w = c .before .before .weight .ensures in
-    (w .0 ∙ simp (ne-eqb _ _ (c .if1 .left)), w .1)
+returns-2 c = c .before .before .weight .ensures ∙ simp (ne-eqb _ _ (c .if1 .left))
 
 pub idle-weight-spec : {M : Type 1} → statement M
 idle-weight-spec = tie.close (tie.spec weight-requires returns returns-2)

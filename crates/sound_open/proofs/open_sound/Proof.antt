@@ -26,7 +26,19 @@ elapsed-requires c κs = search needs
 
 returns : tie.Need-returns
 unfolding openSound
-returns c = rw (c .elapsed .ensures, c .before .address-sound2 .ensures, c .before .before .address-sound .ensures, c .before .before .before .before .before .before .before .before .before .before .before .before .before .kind-of .ensures)
+returns c =
+    let e = c .before .before .before .before .before in
+    rw (
+      c .elapsed .ensures,
+      c .before .address-sound2 .ensures,
+      c .before .before .address-sound .ensures,
+      ← e .before .before .before .before .before .before .before .before .before .kind-of .ensures,
+      e .if1 .taken,
+    )
+
+returns-2 : tie.Need-returns-2
+unfolding openSound
+returns-2 c = rw (← c .before .before .before .before .before .before .before .before .before .kind-of .ensures, c .if1 .left)
 
 pub open-sound-spec : {M : Type 1} → statement M
 open-sound-spec =
@@ -39,4 +51,5 @@ open-sound-spec =
     address-sound-requires
     address-sound-requires-2
     elapsed-requires
-    returns)
+    returns
+    returns-2)

@@ -11,7 +11,8 @@ use Rattle.sound_rows.specs.Listing.{ofThose, lowOf, nameFits}
 use Rattle.rules.proofs.Rows.{row-count}
 use Rattle.sound_rows.proofs.Sound.{markSound, restSound, first-of, rows-are}
 use Rattle.sound_rows.proofs.Counted.{count-more}
-use Rattle.sound_rows.proofs.Bits.{or-zero, or-below}
+use Rattle.rules.proofs.Nought.{or-nought}
+use Rattle.sound_rows.proofs.Bits.{or-below}
 use Rattle.sound_rows.proofs.scattered_sound.Statement.{statement}
 use Rattle.sound_rows.proofs.scattered_sound.Tie as tie
 
@@ -69,7 +70,7 @@ loop-again c =
         (
           rw (add-one i, or-below 16 _ _ 65535 refl, inv .1 .0),
           (
-            rw (add-one i, or-zero, c .unmarked .ensures, c .before .rest-of .ensures, inv .1 .1 .0),
+            rw (add-one i, or-nought, c .unmarked .ensures, c .before .rest-of .ensures, inv .1 .1 .0),
             (omega arith, count-more m (lowOf m) i (l .loop .used) (inv .1 .1 .1 .1)),
           ),
         ),
