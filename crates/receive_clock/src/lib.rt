@@ -102,8 +102,8 @@ pub fn clock(t: Table, m: &mut [u64; rules::SUMMARY], report: &mut [u8], time: u
     let timer = t.timer;
     let which = Test::Aged { time, timer };
     let due = receive_sweep::any_due(t, which);
-    let open = sound::open_sound(t);
-    let is_sound = sound::is_sound(t, open);
+    let idle = sound::look_idle(t);
+    let is_sound = sound::is_sound(t, idle);
     let is_summed = sound::is_summed(t, m);
     let refusal = judge(is_sound & is_summed, report);
     if refusal != 0 {
@@ -129,8 +129,8 @@ pub fn release(
 {
     let which = Test::Of(association);
     let due = receive_sweep::any_due(t, which);
-    let open = sound::open_sound(t);
-    let is_sound = sound::is_sound(t, open);
+    let idle = sound::look_idle(t);
+    let is_sound = sound::is_sound(t, idle);
     let is_summed = sound::is_summed(t, m);
     let refusal = judge(is_sound & is_summed, report);
     if refusal != 0 {

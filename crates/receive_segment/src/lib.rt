@@ -163,8 +163,8 @@ pub fn segment(
 ) -> Received
     ensures { λ r. ⌜ OfSegment t (now (m .entry)) (now (store .entry)) (now (report .entry)) association (now (s .entry)) r (now (m .exit)) (now (store .exit)) (now (report .exit)) ⌝ }
 {
-    let open = sound::open_sound(t);
-    let is_sound = sound::is_sound(t, open);
+    let idle = sound::look_idle(t);
+    let is_sound = sound::is_sound(t, idle);
     let is_summed = sound::is_summed(t, m);
     let mut next = t;
     let q = receive_seek::seek(t, association, s);

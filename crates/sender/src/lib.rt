@@ -133,8 +133,8 @@ pub fn sending(
 ) -> Sent
     ensures { λ r. ⌜ OfSending t q (now (origin .entry)) (now (destination .entry)) (now (whole .entry)) (now (area .entry)) r (now (area .exit)) ⌝ }
 {
-    let open = sound::open_sound(t);
-    let sound = sound::is_sound(t, open);
+    let idle = sound::look_idle(t);
+    let sound = sound::is_sound(t, idle);
     let registry = t.registry;
     let context = q.context;
     let kind = registry::kind_of(registry, context);

@@ -8,6 +8,7 @@ use Rattle.rules.specs.Places.{isOpen, sameKey}
 use Rattle.rules.specs.Soundness.{placesApart}
 use Rattle.rules.specs.declared.Place.{Place}
 use Rattle.rules.proofs.Keys.{same-equal}
+use Rattle.sound_free.specs.Idle.{isShut}
 use Rattle.sound_open.specs.Digest.{digest}
 use Rattle.sound_rows.specs.Listing.{isOther}
 
@@ -63,3 +64,12 @@ told-all (p ∷ ps) e = go (isOpen p) refl e (told-all ps)
         let both = and-eq-true-iff (every (isOther (digest p)) (map digest (those isOpen ps))) (everyTwo isOther (map digest (those isOpen ps))) .0 e in
         and-eq-true-iff (every (placesApart p) ps) (everyTwo placesApart ps) .1 (told-each p ps (both .0), more (both .1))
     go false o e more = and-eq-true-iff (every (placesApart p) ps) (everyTwo placesApart ps) .1 (idle-each p ps o, more e)
+
+-- .. and where none is open none has
+pub none-apart : (ps : List Place) → every isShut ps ≡ true → everyTwo placesApart ps ≡ true
+none-apart [] e = refl
+none-apart (p ∷ ps) e = go (isOpen p) refl e (none-apart ps)
+  where
+    go : (b : Bool) → isOpen p ≡ b → (not b && every isShut ps) ≡ true → (every isShut ps ≡ true → everyTwo placesApart ps ≡ true) → everyTwo placesApart (p ∷ ps) ≡ true
+    go true o h more = absurd (true≢false (sym h))
+    go false o h more = and-eq-true-iff (every (placesApart p) ps) (everyTwo placesApart ps) .1 (idle-each p ps o, more h)

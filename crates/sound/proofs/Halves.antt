@@ -1,7 +1,7 @@
 -- A place is sound where both halves say so, all places are where each half does for all, and a table where both of its parts are.
 use Prim.Native.Nat.{ℕ}
 use mathlib.Core.Path.{_≡_, refl, sym, _∙_}
-use mathlib.Core.Bool.{Bool, true, false, not, _&&_, _||_, and-true, and-false, and-comm, or-false}
+use mathlib.Core.Bool.{Bool, true, false, not, _&&_, _||_, and-true, and-false, or-false, true≢false}
 use mathlib.Core.List.{List, [], _∷_}
 use native.Mathlib.Omega.{arith}
 use borrow.Author.Tests.{eqb-true, ne-eqb}
@@ -13,9 +13,10 @@ use Rattle.rules.specs.Soundness.{openSound, freeSound, placeSound, placesApart
 use Rattle.rules.specs.declared.Entry.{Entry}
 use Rattle.rules.specs.declared.Place.{Place}
 use Rattle.rules.specs.declared.Table.{Table}
-use Rattle.sound_free.specs.Idle.{soundIfIdle}
+use Rattle.sound_free.specs.Idle.{soundIfIdle, isShut}
 use Rattle.sound_open.specs.Open.{soundIfOpen}
-use Rattle.sound.specs.Parts.{besideIdle}
+use Rattle.sound.specs.Parts.{openPart}
+use Rattle.sound.proofs.Digest.{none-apart}
 
 crossed : (a b c d : Bool) → ((a && b) && (c && d)) ≡ ((a && c) && (b && d))
 crossed false b c d = refl
@@ -40,13 +41,28 @@ module _ (registry : List Entry) (timer clock : ℕ) where
   both-halves : (ps : List Place) → every (placeSound registry timer clock) ps ≡ (every (soundIfOpen registry timer clock) ps && every soundIfIdle ps)
   both-halves = every-both (soundIfOpen registry timer clock) soundIfIdle (placeSound registry timer clock) place-halves
 
-last-out : (a b c d : Bool) → (a && (b && c) && d) ≡ (a && b && d && c)
-last-out false b c d = refl
-last-out true false c d = refl
-last-out true true c d = and-comm c d
+turned : (a o i d : Bool) → (a && (o && i) && d) ≡ (a && i && (o && d))
+turned false o i d = refl
+turned true false i d = sym (and-false i)
+turned true true true d = refl
+turned true true false d = refl
 
-pub sound-parts : (t : Table) → sound t ≡ (besideIdle t && every soundIfIdle (t .places))
-unfolding sound besideIdle
+pub sound-parts : (t : Table) → sound t ≡ (timerInRange (t .timer) && registrySound (t .registry) && every soundIfIdle (t .places) && openPart t)
+unfolding sound openPart
 sound-parts t =
     rw (both-halves (t .registry) (t .timer) (t .clock) (t .places))
-    (last-out (timerInRange (t .timer) && registrySound (t .registry)) _ _ (everyTwo placesApart (t .places)))
+    (turned (timerInRange (t .timer) && registrySound (t .registry)) (every (soundIfOpen (t .registry) (t .timer) (t .clock)) (t .places)) (every soundIfIdle (t .places)) (everyTwo placesApart (t .places)))
+
+-- where no place is open all of that part holds
+none-sound : (registry : List Entry) (timer clock : ℕ) (ps : List Place) → every isShut ps ≡ true → every (soundIfOpen registry timer clock) ps ≡ true
+none-sound registry timer clock [] e = refl
+none-sound registry timer clock (p ∷ ps) e = go (isOpen p) e (none-sound registry timer clock ps)
+  where
+    go : (b : Bool) → (not b && every isShut ps) ≡ true → (every isShut ps ≡ true → every (soundIfOpen registry timer clock) ps ≡ true)
+        → ((not b || openSound registry timer clock p) && every (soundIfOpen registry timer clock) ps) ≡ true
+    go true h more = absurd (true≢false (sym h))
+    go false h more = more h
+
+pub none-open : (t : Table) → every isShut (t .places) ≡ true → openPart t ≡ true
+unfolding openPart
+none-open t e = rw (none-sound (t .registry) (t .timer) (t .clock) (t .places) e) (none-apart (t .places) e)

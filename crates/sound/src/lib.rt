@@ -8,7 +8,8 @@ ghost use lib.ListN.{length, take, drop, getD};
 ghost use Rattle.rules.specs.General.{every, everyTwo, those};
 ghost use Rattle.rules.specs.Places.{noPlace, isOpen};
 ghost use Rattle.sound_rows.specs.Listing.{isOther};
-ghost use Rattle.sound.specs.Parts.{besideIdle};
+ghost use Rattle.sound_free.specs.Idle.{soundIfIdle, isShut};
+ghost use Rattle.sound.specs.Parts.{openPart};
 ghost use Rattle.sound.specs.Seated.{associationOf};
 ghost use Rattle.rules.specs.Summary.{summarySound};
 ghost use Rattle.rules.specs.Soundness.{placesApart, sound};
@@ -88,30 +89,49 @@ fn keys_apart(places: [Place; 16]) -> bool
     true
 }
 
-// Whether a table is sound but for the places that are not open. Where the digests of open places differ their keys do, and no key need be looked at.
-pub fn open_sound(t: Table) -> bool
-    ensures { λ r. ⌜ r ≡ besideIdle t ⌝ }
+// Whether the open places are sound, and no two of them share a key. Where their digests differ their keys do, and no key need be looked at.
+fn open_sound(t: Table) -> bool
+    ensures { λ r. ⌜ r ≡ openPart t ⌝ }
+{
+    let registry = t.registry;
+    let places = t.places;
+    let seen = sound_open::look_over(places, registry, t.timer, t.clock);
+    let digests = seen.digests;
+    if all_differ(&digests, seen.open) {
+        return seen.sound;
+    }
+    seen.sound & keys_apart(places)
+}
+
+// What is seen of the places that are not open: whether each is sound, and whether they are all that there are.
+pub struct Idle {
+    pub sound: bool,
+    pub all: bool,
+}
+
+// By a call of its own the places that are not open are read where they are: together with the open ones they would be copied.
+pub fn look_idle(t: Table) -> Idle
+    ensures { λ r. ⌜ (r .sound ≡ every soundIfIdle (t .places)) × (r .all ≡ every isShut (t .places)) ⌝ }
+{
+    let places = t.places;
+    let sound = sound_free::idle_sound(places);
+    let all = sound_free::none_open(places);
+    Idle { sound, all }
+}
+
+// Whether a table is sound, by what was seen of the places that are not open.
+pub fn is_sound(t: Table, idle: Idle) -> bool
+    requires { ⌜ (idle .sound ≡ every soundIfIdle (t .places)) × (idle .all ≡ every isShut (t .places)) ⌝ }
+    ensures { λ r. ⌜ r ≡ sound t ⌝ }
 {
     let timed = (1 <= t.timer) & (t.timer <= 1000000);
     let registry = t.registry;
-    let places = t.places;
     let listed = registry::is_sound(registry);
-    let seen = sound_open::look_over(places, registry, t.timer, t.clock);
-    let each = timed & listed & seen.sound;
-    let digests = seen.digests;
-    if all_differ(&digests, seen.open) {
-        return each;
+    let rest = timed & listed & idle.sound;
+    if idle.all {
+        return rest;
     }
-    each & keys_apart(places)
-}
-
-// Whether a table is sound of which so much is known. By a call of its own the places that are not open are read where they are: together with the open ones they would be copied.
-pub fn is_sound(t: Table, open: bool) -> bool
-    requires { ⌜ «open» ≡ besideIdle t ⌝ }
-    ensures { λ r. ⌜ r ≡ sound t ⌝ }
-{
-    let places = t.places;
-    open & sound_free::idle_sound(places)
+    rest & open_sound(t)
 }
 
 // The associations of the open places, one after the other, and how many there are.
@@ -157,8 +177,8 @@ pub struct Soundness {
 pub fn are_sound(t: Table, m: &[u64; rules::SUMMARY]) -> Soundness
     ensures { λ r. ⌜ (r .table ≡ sound t) × (r .summary ≡ summarySound (now (m .entry)) (t .places)) ⌝ }
 {
-    let open = open_sound(t);
-    let table = is_sound(t, open);
+    let idle = look_idle(t);
+    let table = is_sound(t, idle);
     let summary = is_summed(t, m);
     Soundness { table, summary }
 }

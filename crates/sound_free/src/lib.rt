@@ -10,7 +10,7 @@ ghost use lib.ListN.{take, drop};
 ghost use Rattle.rules.specs.General.{every};
 ghost use Rattle.rules.specs.Places.{isFree};
 ghost use Rattle.rules.specs.Soundness.{isZero, addressZero, freeSound};
-ghost use Rattle.sound_free.specs.Idle.{soundIfIdle};
+ghost use Rattle.sound_free.specs.Idle.{soundIfIdle, isShut};
 ghost use Rattle.sound_free.specs.Weights.{wordOf, wordMost};
 
 // Four octets as one number, the first the least: where they stand in a row they are read at once.
@@ -92,4 +92,18 @@ pub fn idle_sound(places: [Place; 16]) -> bool
     ensures { λ r. ⌜ r ≡ every soundIfIdle places ⌝ }
 {
     (lower_weight(places) | upper_weight(places)) == 0
+}
+
+// Whether no place is open.
+pub fn none_open(places: [Place; 16]) -> bool
+    ensures { λ r. ⌜ r ≡ every isShut places ⌝ }
+{
+    let mut i = 0;
+    while i < 16 {
+        if places[i].mark == 1 {
+            return false;
+        }
+        i += 1;
+    }
+    true
 }

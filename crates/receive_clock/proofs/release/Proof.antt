@@ -10,8 +10,8 @@ use Rattle.receive_clock.proofs.release.Tie as tie
 any-due-requires : tie.Need-any-due-requires
 any-due-requires c κs = search needs
 
-open-sound-requires : tie.Need-open-sound-requires
-open-sound-requires c κs = search needs
+look-idle-requires : tie.Need-look-idle-requires
+look-idle-requires c κs = search needs
 
 is-sound-requires : tie.Need-is-sound-requires
 is-sound-requires c κs = search needs
@@ -79,7 +79,7 @@ release-spec =
     tie.close
     (tie.spec
     any-due-requires
-    open-sound-requires
+    look-idle-requires
     is-sound-requires
     is-summed-requires
     judge-requires

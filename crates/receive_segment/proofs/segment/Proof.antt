@@ -6,8 +6,8 @@ use borrow.Author.Needs.{needs}
 use Rattle.receive_segment.proofs.segment.Statement.{statement}
 use Rattle.receive_segment.proofs.segment.Tie as tie
 
-open-sound-requires : tie.Need-open-sound-requires
-open-sound-requires c κs = search needs
+look-idle-requires : tie.Need-look-idle-requires
+look-idle-requires c κs = search needs
 
 is-sound-requires : tie.Need-is-sound-requires
 is-sound-requires c κs = search needs
@@ -98,7 +98,7 @@ pub segment-spec : {M : Type 1} → statement M
 segment-spec =
     tie.close
     (tie.spec
-    open-sound-requires
+    look-idle-requires
     is-sound-requires
     is-summed-requires
     seek-requires

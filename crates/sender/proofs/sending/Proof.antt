@@ -22,8 +22,8 @@ asked-at c = asked _ _ _ _ _ _ (sym (c .before .request-refusal .ensures) ∙ c 
 header-at : (c : tie.After-header-length) → c .header-length .result ≡ headerLength (kindOf (c .before .before .before .before .before .before .before .before .before .before .before .before .args .t .registry) (c .before .before .before .before .before .before .before .before .before .before .before .before .args .q .context .0)) (c .before .before .before .before .before .before .before .before .before .before .before .before .args .q .context .0) (c .before .before .before .before .before .before .before .before .before .before .before .before .args .origin .now) (c .before .before .before .before .before .before .before .before .before .before .before .before .args .destination .now)
 header-at c = c .header-length .ensures .0 ∙ sym (header-is (c .before .before .before .kind-of .result) (c .before .before .before .before .before .before .before .before .before .before .before .before .args .q .context .0) (c .before .before .before .before .before .before .before .before .before .before .before .before .args .origin .now) (c .before .before .before .before .before .before .before .before .before .before .before .before .args .destination .now)) ∙ rw (c .before .before .before .kind-of .ensures)
 
-open-sound-requires : tie.Need-open-sound-requires
-open-sound-requires c κs = search needs
+look-idle-requires : tie.Need-look-idle-requires
+look-idle-requires c κs = search needs
 
 is-sound-requires : tie.Need-is-sound-requires
 is-sound-requires c κs = search needs
@@ -98,7 +98,7 @@ pub sending-spec : {M : Type 1} → statement M
 sending-spec =
     tie.close
     (tie.spec
-    open-sound-requires
+    look-idle-requires
     is-sound-requires
     kind-of-requires
     request-refusal-requires
