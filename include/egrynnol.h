@@ -17,7 +17,7 @@
  * from C++98 on. Link with -legrynnol. See egrynnol(3), and a page for each
  * function, as egrynnol_segment(3).
  *
- * A call needs up to 10,400 octets of stack, its arguments included: measured,
+ * A call needs up to 9,500 octets of stack, its arguments included: measured,
  * not proved (docs/PERFORMANCE.md).
  *
  * WHAT THE HOST OWES. The library cannot check these:
