@@ -1,23 +1,77 @@
--- What is left of the search gives the answer, unless a place was found before.
+-- What a search passes by does not hold the key; and two searches of eight places are one of all.
 use Prim.Native.Nat.{ℕ, _+_, _<_, _≤_}
 use mathlib.Core.Path.{_≡_, refl, sym, ap, _∙_}
-use mathlib.Core.Bool.{Bool, true, false}
+use mathlib.Core.Bool.{Bool, true, false, _&&_, and-false, true≢false}
 use mathlib.Core.List.{List}
 use native.Mathlib.Omega.{arith}
-use borrow.Author.Tests.{ne-eqb}
+use borrow.Author.Tests.{eq-eqb, ne-eqb}
 use lib.Dec.{eqb}
 use lib.ListN.{length, drop, getD, drop-of-length-le}
 use Rattle.rules.specs.General.{if_then_else_}
 use Rattle.rules.specs.Numbers.{placeCount}
-use Rattle.rules.specs.Places.{noPlace, firstFrom, foundAt}
+use Rattle.rules.specs.Places.{sameOctets, sameAddress, sameKey, isOpen, isFree, holds, noPlace, firstFrom, placeOf, lowestFree, foundAt}
+use Rattle.rules.specs.declared.Key.{Key}
 use Rattle.rules.specs.declared.Place.{Place}
 use Rattle.rules.specs.declared.Found.{Found}
-use Rattle.rules.specs.declared.Found.the-variants.{At}
+use Rattle.rules.specs.declared.Found.the-variants.{At, Nothing}
 use Rattle.rules.proofs.Lists.{left}
-use Rattle.table.specs.Seeking.{soonerOf}
+use Rattle.table.specs.Seeking.{sameAddresses, soonerOf, before-or, Seeks}
+use Rattle.table.specs.declared.Sought.{Sought}
 
-abbrev pub before-or : ℕ → Found → Found
-before-or found rest = if eqb found placeCount then rest else At found
+-- what is compared where it stands: mark, numbers and lengths
+abbrev alike : Place → Key → Bool
+alike p k =
+    ((((isOpen p && eqb (p .key .association) (k .association)) && eqb (p .key .context .0) (k .context .0)) && eqb (p .key .reference .0) (k .reference .0))
+    && eqb (p .key .origin .length) (k .origin .length))
+    && eqb (p .key .destination .length) (k .destination .length)
+
+module _ (p : Place) (k : Key) where
+  -- where it differs a place does not hold the key, whatever its octets
+  pub unlike : alike p k ≡ false → holds k p ≡ false
+  unfolding sameKey sameAddress
+  unlike =
+      go
+      (sameOctets (p .key .origin .octets) (k .origin .octets))
+      (sameOctets (p .key .destination .octets) (k .destination .octets))
+      (isOpen p)
+      (eqb (p .key .association) (k .association))
+      (eqb (p .key .context .0) (k .context .0))
+      (eqb (p .key .reference .0) (k .reference .0))
+      (eqb (p .key .origin .length) (k .origin .length))
+      (eqb (p .key .destination .length) (k .destination .length))
+    where
+      go : (u v o a c r x y : Bool) → (((((o && a) && c) && r) && x) && y) ≡ false → (o && (a && c && r && (x && u) && (y && v))) ≡ false
+      go u v false a c r x y e = refl
+      go u v true false c r x y e = refl
+      go u v true true false r x y e = refl
+      go u v true true true false x y e = refl
+      go u v true true true true false y e = refl
+      go u v true true true true true false e = and-false u
+      go u v true true true true true true e = absurd (true≢false e)
+
+  -- where it agrees they decide
+  pub decided : (b : Bool) → b ≡ sameAddresses (p .key) k → (d : Bool) → b ≡ d → alike p k ≡ true → holds k p ≡ d
+  unfolding sameKey sameAddress
+  decided b e d f =
+      go
+      (sameOctets (p .key .origin .octets) (k .origin .octets))
+      (sameOctets (p .key .destination .octets) (k .destination .octets))
+      (isOpen p)
+      (eqb (p .key .association) (k .association))
+      (eqb (p .key .context .0) (k .context .0))
+      (eqb (p .key .reference .0) (k .reference .0))
+      (eqb (p .key .origin .length) (k .origin .length))
+      (eqb (p .key .destination .length) (k .destination .length))
+      (sym e ∙ f)
+    where
+      go : (u v o a c r x y : Bool) → (u && v) ≡ d → (((((o && a) && c) && r) && x) && y) ≡ true → (o && (a && c && r && (x && u) && (y && v))) ≡ d
+      go u v true true true true true true g h = g
+      go u v false a c r x y g h = absurd (true≢false (sym h))
+      go u v true false c r x y g h = absurd (true≢false (sym h))
+      go u v true true false r x y g h = absurd (true≢false (sym h))
+      go u v true true true false x y g h = absurd (true≢false (sym h))
+      go u v true true true true false y g h = absurd (true≢false (sym h))
+      go u v true true true true true false g h = absurd (true≢false (sym h))
 
 module _ (f : Place → Bool) (l : List Place) (w : Found) (i found : ℕ) (so : w ≡ before-or found (firstFrom f (drop i l) i)) where
   pub sought-more : (b : Bool) → i < length l → i < placeCount → b ≡ f (getD l i noPlace) → w ≡ before-or (soonerOf found b i) (firstFrom f (drop (i + 1) l) (i + 1))
@@ -29,5 +83,27 @@ module _ (f : Place → Bool) (l : List Place) (w : Found) (i found : ℕ) (so :
       go true a false z = rw z
       go false a d z = rw a
 
-  pub sought-all : length l ≤ i → foundAt found ≡ w
-  sought-all end = sym (so ∙ rw (drop-of-length-le l end))
+-- two searches of eight places are one of all
+module _ (k : Key) (places : List Place) (lower : Sought) (first : Seeks k places 0 lower) where
+  pub in-lower : (lower .at ≡ placeCount → ⊥) → placeOf k places ≡ At (lower .at)
+  in-lower n = first .own ∙ rw (ne-eqb (lower .at) placeCount n)
+
+  behind : lower .at ≡ placeCount → placeOf k places ≡ firstFrom (holds k) (drop 8 places) 8
+  behind e = first .own ∙ rw (eq-eqb (lower .at) placeCount e)
+
+module _ (k : Key) (places : List Place) (lower upper : Sought) (first : Seeks k places 0 lower) (second : Seeks k places 8 upper) (sixteen : length places ≡ placeCount) where
+  pub in-upper : lower .at ≡ placeCount → (upper .at ≡ placeCount → ⊥) → placeOf k places ≡ At (upper .at)
+  in-upper e n = behind k places lower first e ∙ second .own ∙ rw (ne-eqb (upper .at) placeCount n)
+
+  none-behind : (f : Place → Bool) → firstFrom f (drop 16 places) 16 ≡ Nothing
+  none-behind f = rw (drop-of-length-le places {i = 16} (omega arith))
+
+  pub in-none : lower .at ≡ placeCount → upper .at ≡ placeCount → placeOf k places ≡ Nothing
+  in-none e g = behind k places lower first e ∙ second .own ∙ rw (eq-eqb (upper .at) placeCount g) (none-behind (holds k))
+
+  pub lowest : lower .at ≡ placeCount → upper .at ≡ placeCount → lowestFree places ≡ foundAt (soonerOf (lower .vacant) true (upper .vacant))
+  lowest e g = first .free e ∙ ap (before-or (lower .vacant)) (second .free g ∙ ap (before-or (upper .vacant)) (none-behind isFree)) ∙ go (eqb (lower .vacant) placeCount) refl
+    where
+      go : (b : Bool) → eqb (lower .vacant) placeCount ≡ b → (if b then before-or (upper .vacant) Nothing else At (lower .vacant)) ≡ foundAt (if b then upper .vacant else lower .vacant)
+      go true z = refl
+      go false z = rw z

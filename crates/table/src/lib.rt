@@ -7,10 +7,10 @@ use rules::Place;
 use rules::Reference;
 use rules::Remaining;
 ghost use mathlib.Core.Path.{_≡_};
-ghost use Prim.Native.Nat.{_≤_};
+ghost use Prim.Native.Nat.{_<_, _≤_};
 ghost use Rattle.rules.specs.Numbers.{elapsed};
-ghost use Rattle.rules.specs.Places.{sameOctets, sameAddress, sameKey, holds, placeOf, lowestFree, freePlace, foundAt};
-ghost use Rattle.table.specs.Seeking.{soonerOf, Points};
+ghost use Rattle.rules.specs.Places.{sameOctets, sameAddress, sameKey, placeOf, lowestFree, freePlace, foundAt};
+ghost use Rattle.table.specs.Seeking.{sameAddresses, soonerOf, Points, Seeks};
 
 // The new time less the old, modulo 2^32: an age, and a step of the clock.
 pub fn elapsed(new: u32, old: u32) -> u32
@@ -69,17 +69,6 @@ pub struct Search {
     pub vacant: bool,
 }
 
-// Whether a place is open with a key.
-fn has_key(p: Place, k: Key) -> bool
-    ensures { λ r. ⌜ r ≡ holds k p ⌝ }
-{
-    if p.mark == 1 {
-        let own = p.key;
-        return same_key(own, k);
-    }
-    false
-}
-
 // The first of the places looked at that passed, so far: found, or the one at i if it does. 16 is none.
 fn sooner(found: usize, passes: bool, i: usize) -> usize
     requires { ⌜ (found ≤ 16) × (i ≤ 16) ⌝ }
@@ -114,25 +103,80 @@ fn unfound(vacant: usize) -> Search
     }
 }
 
-// The place that is open with a key, or else the lowest free one, in one go over the places.
+// What a search gives that found the key.
+fn found_at(at: usize) -> Search
+    requires { ⌜ at < 16 ⌝ }
+    ensures { λ r. ⌜ ((vacant : Found) → Points (Found.At at) vacant r) ⌝ }
+{
+    Search {
+        at,
+        found: true,
+        vacant: true,
+    }
+}
+
+// Whether two keys have the same octets of addresses.
+fn same_addresses(a: Key, b: Key) -> bool
+    ensures { λ r. ⌜ r ≡ sameAddresses a b ⌝ }
+{
+    let x = a.origin;
+    let y = b.origin;
+    let u = a.destination;
+    let v = b.destination;
+    let from = x.octets;
+    let other = y.octets;
+    let to = u.octets;
+    let another = v.octets;
+    same_octets(from, other) & same_octets(to, another)
+}
+
+// Of some of the places the number of the one that is open with a key, and of the lowest free one where none is; 16 is none.
+struct Sought {
+    at: usize,
+    vacant: usize,
+}
+
+// A search of eight places. Marks, numbers and lengths are compared where they stand; a place is copied only where all of them agree, for its addresses' octets.
+fn seek_in(places: [Place; 16], k: Key, from: usize) -> Sought
+    requires { ⌜ from ≤ 8 ⌝ }
+    ensures { λ r. ⌜ Seeks k places from r ⌝ }
+{
+    let end = from + 8;
+    let mut vacant = 16;
+    let mut i = from;
+    while i < end {
+        let alike = (places[i].mark == 1)
+            & (places[i].key.association == k.association)
+            & (places[i].key.context.0 == k.context.0)
+            & (places[i].key.reference.0 == k.reference.0)
+            & (places[i].key.origin.length == k.origin.length)
+            & (places[i].key.destination.length == k.destination.length);
+        if alike {
+            let p = places[i];
+            let own = p.key;
+            if same_addresses(own, k) {
+                return Sought { at: i, vacant };
+            }
+        }
+        vacant = sooner(vacant, places[i].mark == 0, i);
+        i += 1;
+    }
+    Sought { at: 16, vacant }
+}
+
+// The place that is open with a key, or else the lowest free one. In halves: what is called twice stays a function, and its caller does not keep the places that it copies.
 pub fn search_for(places: [Place; 16], k: Key) -> Search
     ensures { λ r. ⌜ Points (placeOf k places) (lowestFree places) r ⌝ }
 {
-    let mut vacant = 16;
-    let mut i = 0;
-    while i < 16 {
-        let p = places[i];
-        if has_key(p, k) {
-            return Search {
-                at: i,
-                found: true,
-                vacant: true,
-            };
-        }
-        vacant = sooner(vacant, p.mark == 0, i);
-        i += 1;
+    let lower = seek_in(places, k, 0);
+    if lower.at != 16 {
+        return found_at(lower.at);
     }
-    unfound(vacant)
+    let upper = seek_in(places, k, 8);
+    if upper.at != 16 {
+        return found_at(upper.at);
+    }
+    unfound(sooner(lower.vacant, true, upper.vacant))
 }
 
 // The lowest free place.

@@ -1,95 +1,61 @@
-use Prim.Native.Nat.{_-_, _≤_}
-use mathlib.Core.Path.{_≡_, refl, sym, _∙_}
-use mathlib.Core.Bool.{true≢false}
-use lib.ListN.{drop}
 use native.Mathlib.Omega.{arith}
 use borrow.Author.Needs.{needs}
-use Rattle.rules.specs.Places.{firstFrom, holds, isFree, placeOf, lowestFree}
-use Rattle.rules.proofs.Lists.{first-found, first-goes, first-ends}
-use Rattle.table.proofs.Seeking.{before-or, sought-more, sought-all}
+use Rattle.table.proofs.Seeking.{in-lower, in-upper, in-none, lowest}
 use Rattle.table.proofs.search_for.Statement.{statement}
 use Rattle.table.proofs.search_for.Tie as tie
 
-abbrev Inv-loop : tie.InvT-loop
-Inv-loop k places room₀ i₀ vacant i =
-    (placeOf k places ≡ firstFrom (holds k) (drop i places) i) × ((lowestFree places ≡ before-or vacant (firstFrom isFree (drop i places) i)) × (vacant ≤ 16))
+seek-in-requires : tie.Need-seek-in-requires
+seek-in-requires c κs = search needs
 
-abbrev μ-loop : tie.MeasureT-loop
-μ-loop k places room₀ i₀ vacant i = 16 - i
+found-at-requires : tie.Need-found-at-requires
+found-at-requires c κs = search needs
 
-loop-holds : tie.Need-loop-holds Inv-loop μ-loop
-loop-holds c = (refl, (refl, omega arith))
-
-mul-p : tie.Need-mul-p Inv-loop μ-loop
-mul-p c = omega arith
-
-array-copy-out-p : tie.Need-array-copy-out-p Inv-loop μ-loop
-array-copy-out-p c = omega arith
-
-has-key-requires : tie.Need-has-key-requires Inv-loop μ-loop
-has-key-requires c κs = search needs
-
-returns : tie.Need-returns Inv-loop μ-loop
+returns : tie.Need-returns
 returns c =
-    let h = c .before in
-    let l = h .before .before .before in
+    let l = c .before .before .before in
     let a = l .before .args in
-    record {
-      inside = omega arith;
-      open-at = sym (first-found (holds (a .k)) (a .t1) (l .loop .i) _ (l .loop .inv .0) (omega arith) (sym (h .has-key .ensures) ∙ c .if1 .taken));
-      has-vacant = λ e. absurd (true≢false e);
-      free-at = λ e. absurd (true≢false e);
-    }
+    rw (in-lower (a .k) (a .places) (l .seek-in .result) (l .seek-in .ensures) (c .before .if1 .taken)) (c .found-at .ensures _)
 
-sooner-requires : tie.Need-sooner-requires Inv-loop μ-loop
-sooner-requires c κs = omega arith
+seek-in-requires-2 : tie.Need-seek-in-requires-2
+seek-in-requires-2 c κs = search needs
 
-add-i : tie.Need-add-i Inv-loop μ-loop
-add-i c = omega arith
+found-at-requires-2 : tie.Need-found-at-requires-2
+found-at-requires-2 c κs = search needs
 
-loop-less : tie.Need-loop-less Inv-loop μ-loop
-loop-less c = omega arith
-
-loop-again : tie.Need-loop-again Inv-loop μ-loop
-loop-again c =
-    let n = c .before .before in
-    let h = n .before in
-    let l = h .before .before .before in
-    let a = l .before .args in (
-      first-goes (holds (a .k)) (a .t1) (l .loop .i) _ (l .loop .inv .0) (omega arith) (sym (h .has-key .ensures) ∙ n .if1 .left),
-      (
-        rw (c .sooner .ensures .0) (sought-more isFree (a .t1) _ (l .loop .i) (l .loop .vacant) (l .loop .inv .1 .0) _ (omega arith) (omega arith) refl),
-        c .sooner .ensures .1,
-      ),
-    )
-
-unfound-requires : tie.Need-unfound-requires Inv-loop μ-loop
-unfound-requires c κs = c .before .loop .inv .1 .1
-
-returns-2 : tie.Need-returns-2 Inv-loop μ-loop
+returns-2 : tie.Need-returns-2
 returns-2 c =
-    let l = c .before .before in
+    let u = c .before .before .before in
+    let l = u .before .before .before in
     let a = l .before .args in
-    rw (
-      ← first-ends (holds (a .k)) (a .t1) (l .loop .i) _ (l .loop .inv .0) (omega arith),
-      ← sought-all isFree (a .t1) _ (l .loop .i) (l .loop .vacant) (l .loop .inv .1 .0) (omega arith),
-    )
-    (c .unfound .ensures)
+    rw (in-upper (a .k) (a .places) (l .seek-in .result) (u .seek-in2 .result) (l .seek-in .ensures) (u .seek-in2 .ensures) (omega arith) (u .before .if1 .left) (c .before .if2 .taken))
+    (c .found-at2 .ensures _)
+
+sooner-requires : tie.Need-sooner-requires
+sooner-requires c κs = search needs
+
+unfound-requires : tie.Need-unfound-requires
+unfound-requires c κs = search needs
+
+returns-3 : tie.Need-returns-3
+returns-3 c =
+    let e = c .before .before in
+    let u = e .before .before in
+    let l = u .before .before .before in
+    let a = l .before .args in
+    let none = in-none (a .k) (a .places) (l .seek-in .result) (u .seek-in2 .result) (l .seek-in .ensures) (u .seek-in2 .ensures) (omega arith) (u .before .if1 .left) (e .if2 .left) in
+    let free = lowest (a .k) (a .places) (l .seek-in .result) (u .seek-in2 .result) (l .seek-in .ensures) (u .seek-in2 .ensures) (omega arith) (u .before .if1 .left) (e .if2 .left) in
+    rw (none, free, ← c .before .sooner .ensures .0) (c .unfound .ensures)
 
 pub search-for-spec : {M : Type 1} → statement M
 search-for-spec =
     tie.close
     (tie.spec
-    Inv-loop
-    μ-loop
-    loop-holds
-    mul-p
-    array-copy-out-p
-    has-key-requires
+    seek-in-requires
+    found-at-requires
     returns
+    seek-in-requires-2
+    found-at-requires-2
+    returns-2
     sooner-requires
-    add-i
-    loop-less
-    loop-again
     unfound-requires
-    returns-2)
+    returns-3)
