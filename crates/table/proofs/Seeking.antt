@@ -1,7 +1,7 @@
 -- What a search passes by does not hold the key; and two searches of eight places are one of all.
 use Prim.Native.Nat.{ℕ, _+_, _<_, _≤_}
 use mathlib.Core.Path.{_≡_, refl, sym, ap, _∙_}
-use mathlib.Core.Bool.{Bool, true, false, _&&_, and-false, true≢false}
+use mathlib.Core.Bool.{Bool, true, false, _&&_, and-false}
 use mathlib.Core.List.{List}
 use native.Mathlib.Omega.{arith}
 use borrow.Author.Tests.{eq-eqb, ne-eqb}
@@ -26,52 +26,34 @@ alike p k =
     && eqb (p .key .destination .length) (k .destination .length)
 
 module _ (p : Place) (k : Key) where
-  -- where it differs a place does not hold the key, whatever its octets
-  pub unlike : alike p k ≡ false → holds k p ≡ false
+  apart : holds k p ≡ (alike p k && sameAddresses (p .key) k)
   unfolding sameKey sameAddress
-  unlike =
+  apart =
       go
-      (sameOctets (p .key .origin .octets) (k .origin .octets))
-      (sameOctets (p .key .destination .octets) (k .destination .octets))
       (isOpen p)
       (eqb (p .key .association) (k .association))
       (eqb (p .key .context .0) (k .context .0))
       (eqb (p .key .reference .0) (k .reference .0))
       (eqb (p .key .origin .length) (k .origin .length))
       (eqb (p .key .destination .length) (k .destination .length))
+      (sameOctets (p .key .origin .octets) (k .origin .octets))
+      (sameOctets (p .key .destination .octets) (k .destination .octets))
     where
-      go : (u v o a c r x y : Bool) → (((((o && a) && c) && r) && x) && y) ≡ false → (o && (a && c && r && (x && u) && (y && v))) ≡ false
-      go u v false a c r x y e = refl
-      go u v true false c r x y e = refl
-      go u v true true false r x y e = refl
-      go u v true true true false x y e = refl
-      go u v true true true true false y e = refl
-      go u v true true true true true false e = and-false u
-      go u v true true true true true true e = absurd (true≢false e)
+      go : (o a c r x y u v : Bool) → (o && (a && c && r && (x && u) && (y && v))) ≡ ((((((o && a) && c) && r) && x) && y) && (u && v))
+      go false a c r x y u v = refl
+      go true false c r x y u v = refl
+      go true true false r x y u v = refl
+      go true true true false x y u v = refl
+      go true true true true false y u v = refl
+      go true true true true true false u v = and-false u
+      go true true true true true true u v = refl
 
-  -- where it agrees they decide
+  -- where these differ a place does not hold the key, whatever its octets; where they agree the octets decide
+  pub unlike : alike p k ≡ false → holds k p ≡ false
+  unlike e = apart ∙ rw e
+
   pub decided : (b : Bool) → b ≡ sameAddresses (p .key) k → (d : Bool) → b ≡ d → alike p k ≡ true → holds k p ≡ d
-  unfolding sameKey sameAddress
-  decided b e d f =
-      go
-      (sameOctets (p .key .origin .octets) (k .origin .octets))
-      (sameOctets (p .key .destination .octets) (k .destination .octets))
-      (isOpen p)
-      (eqb (p .key .association) (k .association))
-      (eqb (p .key .context .0) (k .context .0))
-      (eqb (p .key .reference .0) (k .reference .0))
-      (eqb (p .key .origin .length) (k .origin .length))
-      (eqb (p .key .destination .length) (k .destination .length))
-      (sym e ∙ f)
-    where
-      go : (u v o a c r x y : Bool) → (u && v) ≡ d → (((((o && a) && c) && r) && x) && y) ≡ true → (o && (a && c && r && (x && u) && (y && v))) ≡ d
-      go u v true true true true true true g h = g
-      go u v false a c r x y g h = absurd (true≢false (sym h))
-      go u v true false c r x y g h = absurd (true≢false (sym h))
-      go u v true true false r x y g h = absurd (true≢false (sym h))
-      go u v true true true false x y g h = absurd (true≢false (sym h))
-      go u v true true true true false y g h = absurd (true≢false (sym h))
-      go u v true true true true true false g h = absurd (true≢false (sym h))
+  decided b e d f g = apart ∙ rw g (sym e ∙ f)
 
 module _ (f : Place → Bool) (l : List Place) (w : Found) (i found : ℕ) (so : w ≡ before-or found (firstFrom f (drop i l) i)) where
   pub sought-more : (b : Bool) → i < length l → i < placeCount → b ≡ f (getD l i noPlace) → w ≡ before-or (soonerOf found b i) (firstFrom f (drop (i + 1) l) (i + 1))
