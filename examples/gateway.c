@@ -1,10 +1,11 @@
 /*
  * gateway.c - a small host of the Egrynnol library.
  *
- * It cuts a message into segments, receives them, takes the delivery, loses a
- * sequence by the timer and another by a release, keeps apart what goes to two
- * exchanges, and bills each association by the summary. It prints each step,
- * checks each answer, and ends with status 1 at the first that is not as expected.
+ * It cuts a message into segments, receives them, takes the delivery, says where
+ * a bad parameter went wrong, loses a sequence by the timer and another by a
+ * release, keeps apart what goes to two exchanges, and bills each association by
+ * the summary. It prints each step, checks each answer, and ends with status 1 at
+ * the first that is not as expected.
  *
  *   make && cc -Iinclude examples/gateway.c target/lib/libegrynnol.a -o target/gateway && target/gateway
  */
@@ -140,6 +141,18 @@ static unsigned cut_message(parameter *segments, const uint8_t *destination, siz
     return sent.count;
 }
 
+/* The octet that a refusal blames; for a parameter that is cut it is the first one that is missing. */
+static void print_fault(uint16_t position, const parameter *segment)
+{
+    if (position == EGRYNNOL_NOWHERE)
+        return;
+    printf(", at position %u", position);
+    if (position < segment->length)
+        printf(", which is %02X", segment->octets[position]);
+    else
+        printf(", where it ends");
+}
+
 /* Receives one parameter. The table goes on, whether refused or not; the summary is changed where it is. */
 static egrynnol_received receive(uint16_t association, const parameter *segment)
 {
@@ -153,6 +166,7 @@ static egrynnol_received receive(uint16_t association, const parameter *segment)
     switch (received.decision.kind) {
     case EGRYNNOL_REFUSED:
         printf(", %u (%s)", received.refusal, egrynnol_refusal_name(received.refusal));
+        print_fault(received.position, segment);
         break;
     case EGRYNNOL_SAVED:
         printf(" in place %u", (unsigned)received.decision.place);
@@ -258,6 +272,7 @@ static void joined(uint16_t association, const parameter *segments, unsigned fro
     for (k = from; k + 1 < count; k++) {
         received = receive(association, segments + k);
         check(received.decision.kind == EGRYNNOL_SAVED && received.records == 0, "a segment is saved");
+        check(received.position == EGRYNNOL_NOWHERE, "what is not refused has no octet at fault");
     }
     received = receive(association, segments + k);
     check(received.decision.kind == EGRYNNOL_DELIVERED_STORE && received.records == 1, "the last segment delivers");
@@ -284,14 +299,26 @@ static void in_one_piece(void)
     take(received.decision, &one, answer, sizeof answer);
 }
 
-/* Context 5 is not registered: refused with 8, and nothing changes. */
+/* A parameter that is refused with this number, at this position. */
+static void refused_at(const parameter *bad, unsigned refusal, unsigned position)
+{
+    egrynnol_received received = receive(9, bad);
+
+    check(received.decision.kind == EGRYNNOL_REFUSED && received.records == 0, "a bad parameter is refused");
+    check(received.refusal == refusal, "the number that it is refused with");
+    check(received.position == position, "the position of the octet at fault");
+}
+
+/* Context 5 is not registered; octet 2 has extension 0; the originating address has 2 of its 3 octets. Nothing changes. */
 static void refused(void)
 {
     static const parameter unknown = {{0x85, 0x80, 0xC0}, 3};
-    egrynnol_received received = receive(9, &unknown);
+    static const parameter unended = {{0x83, 0x00, 0xC0}, 3};
+    static const parameter cut = {{0x84, 0x80, 0xC0, 0x03, 0x00, 0x07}, 6};
 
-    check(received.decision.kind == EGRYNNOL_REFUSED && received.records == 0, "an unknown context is refused");
-    check(received.refusal == EGRYNNOL_REFUSAL_CONTEXT, "it is refused with 8");
+    refused_at(&unknown, EGRYNNOL_REFUSAL_CONTEXT, 0);
+    refused_at(&unended, EGRYNNOL_REFUSAL_EXTENSION, 1);
+    refused_at(&cut, EGRYNNOL_REFUSAL_CUT, 6);
 }
 
 /* The far end goes silent after its first segment. */

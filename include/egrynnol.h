@@ -56,9 +56,9 @@
 /* ---- Versions ---- */
 
 #define EGRYNNOL_VERSION_MAJOR 3
-#define EGRYNNOL_VERSION_MINOR 0
+#define EGRYNNOL_VERSION_MINOR 1
 #define EGRYNNOL_VERSION_PATCH 0
-#define EGRYNNOL_VERSION_STRING "3.0.0"
+#define EGRYNNOL_VERSION_STRING "3.1.0"
 
 /* One number for #if: 1002003 is 1.2.3. */
 #define EGRYNNOL_VERSION \
@@ -121,6 +121,9 @@ extern "C" {
 
 /* egrynnol_decision.place of a loss where no sequence was open. */
 #define EGRYNNOL_NO_PLACE 16
+
+/* egrynnol_received.position where no octet of the parameter is at fault. */
+#define EGRYNNOL_NOWHERE 65535
 
 /* ---- The registry: records of 3 octets, one after the other ----
  * Kind octet, then the context, most significant octet first. */
@@ -284,11 +287,18 @@ typedef struct egrynnol_decision {
     uint8_t cause;              /* enum egrynnol_cause where lost */
 } egrynnol_decision;
 
+/* The answer to a segment. Refusals 5 to 9 and 23 blame an octet of the parameter,
+ * and position says which, from 0 on: 5 the first octet that is missing, so the
+ * parameter's length; 6 the octet whose extension is 0 (1a, 2 or 3a); 7 octet 3;
+ * 8 the context's last octet; 9 the length octet that is over 20; 23 octet 1a.
+ * With any other refusal, and with none, it is EGRYNNOL_NOWHERE. What stands
+ * behind the octet of a 6, 8, 9 or 23 has no part in that refusal. */
 typedef struct egrynnol_received {
     egrynnol_table table;
     egrynnol_decision decision;
     uint8_t refusal;
     uint8_t records;            /* 0 or 1 */
+    uint16_t position;          /* of the octet at fault, from 0; EGRYNNOL_NOWHERE where none is */
 } egrynnol_received;
 
 typedef struct egrynnol_swept {
@@ -491,7 +501,8 @@ EGRYNNOL_CHECK(decision, sizeof(egrynnol_decision) == 32
                && offsetof(egrynnol_decision, cause) == 25);
 EGRYNNOL_CHECK(received, sizeof(egrynnol_received) == 1040
                && offsetof(egrynnol_received, table) == 0 && offsetof(egrynnol_received, decision) == 1000
-               && offsetof(egrynnol_received, refusal) == 1032 && offsetof(egrynnol_received, records) == 1033);
+               && offsetof(egrynnol_received, refusal) == 1032 && offsetof(egrynnol_received, records) == 1033
+               && offsetof(egrynnol_received, position) == 1034);
 EGRYNNOL_CHECK(swept, sizeof(egrynnol_swept) == 1004
                && offsetof(egrynnol_swept, table) == 0 && offsetof(egrynnol_swept, refusal) == 1000
                && offsetof(egrynnol_swept, records) == 1001);

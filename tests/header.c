@@ -2,7 +2,8 @@
  * The inline functions of egrynnol.h, which no proof covers: every name, every field of a record, the
  * header's length beside what sending writes, a delivery for every kind of decision, and the row of an
  * association. Also what the header says of the lengths of lent areas, of both addresses in places and in
- * records, and of a summary and a table that the host hands over.
+ * records, of the octet that a refused parameter is refused for, and of a summary and a table that the host
+ * hands over.
  * Prints one line; the first thing that is not as expected ends it with status 1.
  */
 #include <stdio.h>
@@ -206,6 +207,80 @@ static void report_lengths(void)
     CHECK(egrynnol_release(table, &summary, report, 848, 9).refusal == EGRYNNOL_GOOD);
 }
 
+/* A parameter, the number that it is refused with, and where. */
+struct bad {
+    uint8_t octets[8];
+    uint8_t length;
+    uint8_t refusal;
+    uint16_t position;
+};
+
+static void blames(egrynnol_table *table, const struct bad *list, size_t count)
+{
+    size_t k;
+
+    for (k = 0; k < count; k++) {
+        egrynnol_received received = arrives(table, list[k].octets, list[k].length);
+
+        CHECK(received.refusal == list[k].refusal && received.decision.kind == EGRYNNOL_REFUSED);
+        CHECK(received.position == list[k].position);
+    }
+}
+
+/* Each refusal that blames an octet, wherever that can be: with a context in one octet and in two. */
+static void positions(void)
+{
+    static const struct bad one[] = {
+        {{0}, 0, 5, 0}, {{0x84}, 1, 5, 1}, {{0x05}, 1, 5, 1}, {{0x84, 0x80}, 2, 5, 2}, {{0x84, 0x80, 0x41}, 3, 5, 3},
+        {{0x84, 0x80, 0xC0}, 3, 5, 3}, {{0x84, 0x80, 0xC0, 3, 1, 2}, 6, 5, 6}, {{0x84, 0x80, 0xC0, 0}, 4, 5, 4},
+        {{0x84, 0x80, 0xC0, 0, 4, 1, 2}, 7, 5, 7},
+        {{0x05, 0x05}, 2, 6, 1}, {{0x84, 0x00}, 2, 6, 1}, {{0x84, 0x80, 0x41, 0x05}, 4, 6, 3},
+        {{0x84, 0x80, 0x40, 0x85}, 4, 7, 2}, {{0x84, 0x80, 0xC1}, 3, 7, 2},
+        {{0x85}, 1, 8, 0}, {{0x05, 0x81}, 2, 8, 1},
+        {{0x84, 0x80, 0xC0, 21}, 4, 9, 3}, {{0x84, 0x80, 0x41, 0x85, 255}, 5, 9, 4}, {{0x84, 0x80, 0xC0, 1, 7, 21}, 6, 9, 5},
+        {{0x04, 0x80}, 2, 23, 1}, {{0x00, 0x80}, 2, 23, 1}};
+    static const struct bad two[] = {
+        {{0x2C, 0x82}, 2, 5, 2}, {{0x2C, 0x82, 0x80}, 3, 5, 3}, {{0x2C, 0x82, 0x00}, 3, 6, 2},
+        {{0x2C, 0x82, 0x80, 0x41, 0x05}, 5, 6, 4}, {{0x2C, 0x82, 0x80, 0x40, 0x85}, 5, 7, 3}, {{0x2C, 0x82, 0x80, 0x80}, 4, 7, 3},
+        {{0x2C, 0x82, 0x80, 0xC0, 21}, 5, 9, 4}, {{0x2C, 0x82, 0x80, 0x41, 0x85, 0, 21}, 7, 9, 6}};
+    egrynnol_table table = opened_with(EGRYNNOL_KIND_2000, 4);
+
+    CHECK(sizeof(egrynnol_received) == 1040 && offsetof(egrynnol_received, position) == 1034 && EGRYNNOL_NOWHERE == 65535);
+    blames(&table, one, sizeof one / sizeof one[0]);
+    table = opened_with(EGRYNNOL_KIND_2000, 300);
+    blames(&table, two, sizeof two / sizeof two[0]);
+}
+
+/* Whether a segment is answered with this number, and blames no octet. */
+static int nowhere(egrynnol_received received, unsigned refusal)
+{
+    return received.refusal == refusal && received.position == EGRYNNOL_NOWHERE;
+}
+
+/* Saved, delivered and lost; and each refusal that a segment can meet and that blames no octet, though the parameter is bad. */
+static void no_position(void)
+{
+    static const uint8_t whole[] = {0x83, 0x80, 0xC0, 0xAA}, last[] = {0x83, 0x80, 0x00, 0x85}, bad[1] = {0};
+    static const uint8_t long_one[EGRYNNOL_PARAMETER + 1] = {0x83, 0x00};
+    uint8_t first[] = {0x83, 0x80, 0x41, 0x80};
+    egrynnol_table table, none;
+
+    memset(&none, 0, sizeof none);
+    table = opened_with(EGRYNNOL_KIND_1998, 3);
+    CHECK(nowhere(arrives(&none, bad, 0), EGRYNNOL_REFUSAL_TABLE));
+    CHECK(nowhere(egrynnol_segment(table, &summary, store, EGRYNNOL_STORE - 1, report, sizeof report, 9, bad, 0), EGRYNNOL_REFUSAL_STORE));
+    CHECK(nowhere(egrynnol_segment(table, &summary, store, sizeof store, report, 52, 9, bad, 0), EGRYNNOL_REFUSAL_REPORT));
+    CHECK(nowhere(arrives(&table, long_one, sizeof long_one), EGRYNNOL_REFUSAL_PARAMETER));
+    CHECK(arrives(&table, long_one, sizeof long_one - 1).position == 1);
+    CHECK(nowhere(arrives(&table, whole, sizeof whole), EGRYNNOL_GOOD));
+    CHECK(nowhere(arrives(&table, last, sizeof last), EGRYNNOL_GOOD));
+    for (; first[3] < 0x80 + EGRYNNOL_PLACES; first[3]++)
+        CHECK(nowhere(arrives(&table, first, sizeof first), EGRYNNOL_GOOD));
+    CHECK(nowhere(arrives(&table, first, sizeof first), EGRYNNOL_REFUSAL_FULL));
+    summary.taken_segments[0] = EGRYNNOL_TOTAL_MOST;
+    CHECK(nowhere(arrives(&table, whole, sizeof whole), EGRYNNOL_REFUSAL_TOTAL));
+}
+
 /* Whether an address of a place or of a record has these octets, and zeros behind them. */
 static int address_is(const uint8_t *octets, unsigned length, const uint8_t *wanted, unsigned wanted_length)
 {
@@ -378,7 +453,7 @@ static void rows_by_calls(void)
         CHECK(row_says(k, 1, 2, 1, 2, 0, 0));
     }
     before = summary;
-    CHECK(arrives_on(9, &table, whole, sizeof whole).refusal == EGRYNNOL_REFUSAL_ROW);
+    CHECK(nowhere(arrives_on(9, &table, whole, sizeof whole), EGRYNNOL_REFUSAL_ROW));
     CHECK(memcmp(&before, &summary, sizeof summary) == 0);
     row_is(9, EGRYNNOL_ROWS);
 
@@ -467,12 +542,14 @@ int main(void)
     header_lengths();
     deliveries();
     report_lengths();
+    positions();
+    no_position();
     destinations();
     no_addresses();
     rows_by_hand();
     rows_by_calls();
     handed_over();
     addresses();
-    printf("inline functions, addresses and summaries: as expected\n");
+    printf("inline functions, positions, addresses and summaries: as expected\n");
     return 0;
 }

@@ -1,6 +1,6 @@
 #!/usr/bin/env python3
-"""The manual page beside the header: every function is in it with the same arguments and the same order of refusals, every refusal number is, the structs have the same sizes, a record's fields
-the same places, and what the host owes is told in the same words."""
+"""The manual page beside the header: every function is in it with the same arguments and the same order of refusals, every refusal number is, the structs have the same sizes and fields, a record's
+fields the same places, and what the host owes is told in the same words."""
 import os
 import re
 import sys
@@ -92,6 +92,13 @@ def sizes_of_manual(text):
     return {name: size.replace(",", "") for size, name in found}
 
 
+def fields_of(text):
+    """Name to the names of its fields, in their order, of each struct."""
+    text = re.sub(r"/\*.*?\*/", "", text, flags=re.S)
+    found = re.findall(r"^typedef struct (?:\w+ )?\{([^}]*)\} (egrynnol_\w+);", text, flags=re.M)
+    return {name: re.findall(r"(\w+)(?:\[\w+\])?(?=[,;])", body) for body, name in found}
+
+
 def offsets_of_header(text):
     return re.findall(r"^#define EGRYNNOL_AT_\w+ (\d+)\b", text, flags=re.M)
 
@@ -114,6 +121,7 @@ def main():
     for what, one, other in (("the orders of refusals", orders_of_header(header), orders_of_manual(manual)),
                              ("the refusal numbers", numbers_of_header(header), numbers_of_manual(manual)),
                              ("the sizes of structs", sizes_of_header(header), sizes_of_manual(manual)),
+                             ("the fields of structs", fields_of(header), fields_of(manual)),
                              ("the places of a record's fields", offsets_of_header(header), offsets_of_manual(manual))):
         if one != other or len(one) < 5:
             bad.append("%s: the header has %s, the manual %s" % (what, one, other))

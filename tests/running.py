@@ -35,6 +35,22 @@ def process(*words, data=b"", **more):
     return Ran(done.returncode, done.stdout, done.stderr.decode("utf-8", "backslashreplace"))
 
 
+FIELDS = "    read alone, the parameter says:"
+
+
+def unwrapped(text):
+    """The lines of explain, each that was cut where a screen ends in one piece again."""
+    lines, goes_on, fields = [], None, False
+    for line in text.splitlines():
+        if goes_on and line.startswith(goes_on):
+            lines[-1] += " " + line.strip()
+            continue
+        lines.append(line)
+        fields = line == FIELDS or fields and line.startswith(" " * 8)
+        goes_on = None if line == FIELDS else " " * 12 if fields else " " * 8 if line.startswith("    read alone, ") else None
+    return lines
+
+
 def octets_of(file):
     file.seek(0)
     return file.read()

@@ -393,7 +393,9 @@ class Programs(Folder):
         self.assertEqual(self.with_program("replay", "exec <&-; sleep 0.1; echo stop", "replay", data=LONG)[:2], (3, b"stop\n"))
 
     def test_nonsense(self):
-        for line in ("event 1", "open 0 0 0 0", "segment 0 0 0 0 1 -", "open 0 0 0 0 1 -\nopen 0 0 0 0 2 -\nopen 0 0 0 0 3 -", "delivered 1 2", "\\377\\376", "stop", "held 1 2 3",
+        for line in ("event 1", "open 0 0 0 0", "segment 0 0 0 0 1 -", "segment 6 0 0 0 2 refused 6", "open 0 0 0 0 - 1 -", "open 12 0 0 0 0 1 refused 12", "open 0 0 0 0 1 -\nsegment 0 0 0 0 2 saved 0",
+                     "open 0 0 0 0 1 -\nsegment 6 0 0 0 2 refused 6", "open 0 0 0 0 1 -\nsegment 6 0 0 0 x 2 refused 6", "open 0 0 0 0 1 -\nsegment 6 0 0 0 -1 2 refused 6",
+                     "open 0 0 0 0 1 -\nsegment 0 0 0 0 1 2 saved 0", "open 0 0 0 0 1 -\nsegment 6 0 0 0 %s 2 refused 6" % ("9" * 5000), "open 0 0 0 0 1 -\nopen 0 0 0 0 2 -\nopen 0 0 0 0 3 -", "delivered 1 2", "\\377\\376", "stop", "held 1 2 3",
                      "delivered 9 3 5 1 0 2 2 - -", "open 0 0 0 0 1 -\ndelivered 9 3 5 1 0 2 2 -", "open 0 0 0 0 1 -\ndelivered 9 4 5 1 0 2 2 07 0a",
                      "open 0 0 0 0 1 -\ndelivered 9 4 5 1 0 2 2 07 070", "open 0 0 0 0 1 -\nlost 9 4 5 1 1 2 2 07 07 07",
                      "open 0 0 0 0 1 refused 5", "open 5 0 0 0 1 -", "open 0 0 0 0 %s -" % ("9" * 5000)):
@@ -512,7 +514,9 @@ def as_line(row):
     if row["row"] == "event":
         decided = row["decision"] or "-"
         decided += " %s" % row["refusal"] if decided == "refused" else " %s" % row["place"] if decided == "saved" else ""
-        return "%s %s %s %s %s %s %s" % (row["name"], row["refusal"], row["records"], row["octets_delivered"], row["octets_lost"], row["event"], decided)
+        position = ["-" if row["position"] in (None, "") else row["position"]] if row["name"] == "segment" else []
+        assert position or row["position"] in (None, ""), row
+        return " ".join(map(str, [row["name"], row["refusal"], row["records"], row["octets_delivered"], row["octets_lost"], *position, row["event"], decided]))
     origin, destination = (re.sub("^0x", "", row[name]) or "-" for name in ("origin", "destination"))
     reference = "-" if row["reference"] in (None, "") else row["reference"]
     return "%s %s %s %s %s %s %s %s %s %s" % (row["row"], row["association"], row["context"], reference, row["instruction"], row["cause"], row["segments"], row["octets"],
@@ -575,6 +579,16 @@ class Tables(Folder):
         last = json.loads(run("records", "--json", example("two-exchanges")).out.decode().splitlines()[-1])
         self.assertEqual(list(last), head)
         self.assertEqual((last["origin"], last["destination"]), ("3132", "22"))
+
+    def test_positions(self):
+        """Behind what replay prints before it, as a number; nothing where no octet is at fault, and nothing for what is no segment."""
+        self.assertEqual(rows.COLUMNS[5:13], ("name", "refusal", "records", "octets_delivered", "octets_lost", "position", "decision", "place"))
+        text = b"segment 9\ncontext 2000 4\nopen 100 0\nsegment 9 84 00\nsegment 9\nsegment 9 84 80 C0 02 AA\nsegment 9 84 80 41 85 00 00\nclock 5\nclock 1\n"
+        found = [json.loads(line) for line in run("records", "--json", data=text).out.decode().splitlines()]
+        self.assertEqual([(row["name"], row["refusal"], row["position"]) for row in found if row["row"] == "event"],
+                         [("segment", 1, None), ("open", 0, None), ("segment", 6, 1), ("segment", 5, 0), ("segment", 5, 5), ("segment", 0, None), ("clock", 0, None), ("clock", 13, None)])
+        table = list(csv.DictReader(io.StringIO(run("records", "--csv", data=text).out.decode(), newline="")))
+        self.assertEqual([row["position"] for row in table], ["", "", "1", "0", "5", "", "", "", ""])
 
     def test_a_spreadsheet_must_not_take_an_address_for_a_number(self):
         self.assertIn(b",0x0007,\n", run("records", "--csv", example("origins")).out)
@@ -742,6 +756,60 @@ class Help(Folder):
         self.assertEqual(self.complete(TOOL, "records", "--j"), {"--json"})
         self.assertEqual(self.complete(TOOL, "t"), {"totals"})
         self.assertEqual(self.complete(TOOL, "totals", "--c"), {"--csv"})
+
+
+class Documents(Folder):
+    """What the pages show of the command is what it prints."""
+
+    def page(self, *names):
+        with open(os.path.join(ROOT, *names), encoding="utf-8") as file:
+            return file.read()
+
+    def blocks(self, name):
+        """The examples of a manual page, as a reader sees them."""
+        text = self.page("man", name)
+        for escape, plain in (("\\(aq", "'"), ("\\(ha", "^"), ("\\-", "-"), ("\\e", "\\")):
+            text = text.replace(escape, plain)
+        return re.findall(r"^\.EX\n(.*?)^\.EE$", text, flags=re.S | re.M)
+
+    def pasted(self, line):
+        done = subprocess.run(["sh", "-c", line], stdout=subprocess.PIPE, stderr=subprocess.PIPE, env=dict(os.environ, PATH=TOOLS + ":" + os.environ["PATH"]), timeout=60)
+        self.assertEqual(done.stderr, b"")
+        return done.stdout.decode()
+
+    def test_examples_of_the_manual(self):
+        """A command, and in the next block what it prints, or the end of that."""
+        for name, most in (("egrynnol.1", 2), ("egrynnol-trace.5", 2)):
+            blocks, tried = self.blocks(name), 0
+            for command, shown in zip(blocks, blocks[1:]):
+                if command.startswith("printf ") and re.match("open|line", shown):
+                    self.assertTrue(self.pasted(command).endswith(shown), (command, shown))
+                    tried += 1
+            self.assertEqual(tried, most, name)
+        self.assertTrue(self.pasted(self.blocks("egrynnol-trace.5")[-1]).endswith("\nstop\n"))
+
+    def test_the_manuals_lines_of_records_and_totals(self):
+        text = b"context 1998 3\nopen 100 0\nsegment 9 83 81 41 85 AA\nsegment 9 83 80 00 85 BB\nsegment 9 83 80 41 86 CC\nrelease 8\n"
+        for name in ("records", "totals"):
+            self.assertIn(run(name, data=text).out.decode(), self.blocks("egrynnol-trace.5"))
+
+    def test_what_the_readme_prints(self):
+        text = self.page("README.md")
+        block = re.search(r"It prints\n\n((?:    .*\n)+)", text).group(1)
+        self.assertEqual(re.sub("(?m)^    ", "", block).encode(), run("replay", example("origins")).out)
+
+    def test_lines_of_before_and_of_now(self):
+        """docs/MIGRATION.md: the lines of now are printed so, and its sed makes those of before of them."""
+        text = self.page("docs", "MIGRATION.md")
+        script = re.search(r"^ +sed '(.*\[-0-9\].*)'$", text, flags=re.M).group(1)
+        pairs = re.findall(r"^  \| `((?:segment|clock) [\d ]+)` \| `((?:segment|clock) [-\d ]+)` \|$", text, flags=re.M)
+        self.assertEqual(len(pairs), 4)
+        now = "".join(now + "\n" for _, now in pairs)
+        done = subprocess.run(["sed", script], input=now.encode(), stdout=subprocess.PIPE, check=True)
+        self.assertEqual(done.stdout.decode(), "".join(before + "\n" for before, _ in pairs))
+        printed = b"".join(run("replay", example(name)).out for name in examples()).decode().splitlines()
+        for _, line in pairs:
+            self.assertIn(line, printed)
 
 
 class Sweep(Folder):

@@ -19,7 +19,8 @@ RUNS = int(os.environ.get("RUNS", "4000"))
 
 BODY = {1: 2, 2: 2, 32: 8, 33: 258, 34: 4, 35: 2}
 NAME = {32: "open", 33: "segment", 34: "clock", 35: "release"}
-LINE = re.compile(r"(open|segment|clock|release) \d+ \d+ \d+ \d+")
+# Refusals 5 to 9 and 23 have the position of an octet, and no other answer to a segment has one.
+LINE = re.compile(r"(?:open|clock|release) \d+ \d+ \d+ \d+|segment (?:(?:[5-9]|23) 0 0 0 \d+|(?!(?:[5-9]|23) )\d+ \d+ \d+ \d+ -)")
 
 
 def replay(octets):
@@ -63,7 +64,7 @@ class Cases(unittest.TestCase):
 
     def test_the_papers_own(self):
         self.prints(context(3) + opening() + segment("83814185AA") + segment("83800085BB") + release(),
-                    "open 0 0 0 0", "segment 0 0 0 0", "segment 0 1 2 0", "release 0 0 0 0")
+                    "open 0 0 0 0", "segment 0 0 0 0 -", "segment 0 1 2 0 -", "release 0 0 0 0")
 
     def test_empty_input(self):
         self.prints(b"")
@@ -73,22 +74,40 @@ class Cases(unittest.TestCase):
 
     def test_events_before_open(self):
         self.prints(segment("8380C0") + clock(5) + release() + context(3) + opening() + segment("8380C0AA"),
-                    "segment 1 0 0 0", "clock 1 0 0 0", "release 1 0 0 0", "open 0 0 0 0", "segment 0 1 1 0")
+                    "segment 1 0 0 0 -", "clock 1 0 0 0", "release 1 0 0 0", "open 0 0 0 0", "segment 0 1 1 0 -")
 
     def test_refusals_of_reading(self):
-        for text, number in (("", 5), ("83", 5), ("8380", 5), ("838040", 5), ("848041", 5), ("8480418502AA", 5), ("05", 5),
-                             ("8300", 6), ("0505", 6), ("83804005", 6),
-                             ("83804085", 7), ("8380C1", 7), ("838080", 7), ("8480408515", 7), ("8480C1", 7),
-                             ("85", 8), ("0581", 8), ("80", 8), ("0081", 8),
-                             ("038080C0AA", 23), ("0580", 23), ("0080", 23), ("7F80", 23), ("0300", 6), ("03", 5),
-                             ("8480418515", 9), ("848041850015", 9)):
+        """The number, and the position of the octet at fault."""
+        for text, number, position in (
+                ("", 5, 0), ("83", 5, 1), ("8380", 5, 2), ("838040", 5, 3), ("848041", 5, 3), ("8480418502AA", 5, 6), ("05", 5, 1),
+                ("8300", 6, 1), ("0505", 6, 1), ("83804005", 6, 3),
+                ("83804085", 7, 2), ("8380C1", 7, 2), ("838080", 7, 2), ("8480408515", 7, 2), ("8480C1", 7, 2),
+                ("85", 8, 0), ("0581", 8, 1), ("80", 8, 0), ("0081", 8, 1),
+                ("038080C0AA", 23, 1), ("0580", 23, 1), ("0080", 23, 1), ("7F80", 23, 1), ("0300", 6, 1), ("03", 5, 1),
+                ("8480418515", 9, 4), ("848041850015", 9, 5), ("8480C015", 9, 3), ("8480C0010715", 9, 5)):
             with self.subTest(text):
-                self.from_open(segment(text), "segment %d 0 0 0" % number)
+                self.from_open(segment(text), "segment %d 0 0 0 %d" % (number, position))
+
+    def test_where_a_parameter_is_cut(self):
+        """5 has the parameter's length, also inside an address; of the longest fields each length but the whole one."""
+        for whole in ("0081" + "80" + "4185" + "14" + "AA" * 20 + "14" + "BB" * 20, "84" + "80" + "C0" + "14" + "AA" * 20 + "14" + "BB" * 20):
+            octets = b"".join(segment(whole[:2 * length]) for length in range(len(whole) // 2))
+            lines = ["segment 5 0 0 0 %d" % length for length in range(len(whole) // 2)]
+            self.prints(context(4, 2) + context(128, 2) + opening() + octets, "open 0 0 0 0", *lines)
+
+    def test_positions_behind_a_context_in_two_octets(self):
+        for text, number, position in (("0081", 5, 2), ("008100", 6, 2), ("00818041", 5, 4), ("0081804105", 6, 4), ("0081804085", 7, 3), ("00818080", 7, 3), ("008180C015", 9, 4),
+                                       ("0081804185" + "14" + "00" * 20 + "15", 9, 26), ("0081" + "80C0" + "00" + "FF", 9, 5)):
+            with self.subTest(text):
+                self.prints(context(128, 2) + opening() + segment(text), "open 0 0 0 0", "segment %d 0 0 0 %d" % (number, position))
+
+    def test_octets_past_the_length_are_not_the_missing_ones(self):
+        self.from_open(segment("83", past=b"\x80\xc0\xaa") + segment("8480C002AA", past=b"\xaa\0"), "segment 5 0 0 0 1", "segment 5 0 0 0 5")
 
     def test_contexts_in_two_octets(self):
         """128 is not padded, and is good where it is registered; the same octets with a zero upper part are 23 though context 0 never is."""
         self.prints(context(128) + context(16383) + context(127) + opening() + segment("008180C0AA") + segment("7FFF80C0") + segment("FF80C0") + segment("7F8080C0") + segment("008080C0AA"),
-                    "open 0 0 0 0", "segment 0 1 1 0", "segment 0 1 0 0", "segment 0 1 0 0", "segment 23 0 0 0", "segment 23 0 0 0")
+                    "open 0 0 0 0", "segment 0 1 1 0 -", "segment 0 1 0 0 -", "segment 0 1 0 0 -", "segment 23 0 0 0 1", "segment 23 0 0 0 1")
 
     def test_refusals_of_opening(self):
         good = context(3)
@@ -100,12 +119,12 @@ class Cases(unittest.TestCase):
 
     def test_nine_registry_records(self):
         nine = b"".join(context(number) for number in range(1, 10))
-        self.prints(nine + opening() + opening(0) + segment("8180C0"), "open 11 0 0 0", "open 12 0 0 0", "segment 1 0 0 0")
-        self.prints(nine[:24] + opening() + segment("8880C0"), "open 0 0 0 0", "segment 0 1 0 0")
+        self.prints(nine + opening() + opening(0) + segment("8180C0"), "open 11 0 0 0", "open 12 0 0 0", "segment 1 0 0 0 -")
+        self.prints(nine[:24] + opening() + segment("8880C0"), "open 0 0 0 0", "segment 0 1 0 0 -")
         self.prints(nine * 40 + opening(), "open 11 0 0 0")
 
     def test_no_registry_record(self):
-        self.prints(opening() + segment("8380C0"), "open 0 0 0 0", "segment 8 0 0 0")
+        self.prints(opening() + segment("8380C0"), "open 0 0 0 0", "segment 8 0 0 0 0")
 
     def test_registry_after_open(self):
         self.from_open(context(5) + release(), "stop")
@@ -133,34 +152,34 @@ class Cases(unittest.TestCase):
 
     def test_refused_open_after_a_good_one(self):
         self.from_open(segment("83804185AA") + opening(0) + segment("83800085BB") + opening() + segment("83800085BB"),
-                       "segment 0 0 0 0", "open 12 0 0 0", "segment 1 0 0 0", "open 0 0 0 0", "segment 0 1 0 1")
+                       "segment 0 0 0 0 -", "open 12 0 0 0", "segment 1 0 0 0 -", "open 0 0 0 0", "segment 0 1 0 1 -")
 
     def test_receiving_lines(self):
         first, last = segment("83814185AA"), segment("83800085BB")
-        self.from_open(segment("8380C0AABB"), "segment 0 1 2 0")                                    # unsegmented
-        self.from_open(segment("83804A85AA"), "segment 0 1 0 1")                                    # line 1, none open
-        self.from_open(first + segment("83804A85AA"), "segment 0 0 0 0", "segment 0 1 0 2")         # line 1, open
-        self.from_open(first + first + last, "segment 0 0 0 0", "segment 0 1 0 1", "segment 0 1 2 0")  # line 2
-        self.from_open(segment("83804985"), "segment 0 0 0 0")                                      # line 3
-        self.from_open(last, "segment 0 1 0 1")                                                     # line 4
-        self.from_open(segment("83804285AA") + last, "segment 0 0 0 0", "segment 0 1 0 2")          # line 5
-        self.from_open(first + last, "segment 0 0 0 0", "segment 0 1 2 0")                          # line 7
+        self.from_open(segment("8380C0AABB"), "segment 0 1 2 0 -")                                    # unsegmented
+        self.from_open(segment("83804A85AA"), "segment 0 1 0 1 -")                                    # line 1, none open
+        self.from_open(first + segment("83804A85AA"), "segment 0 0 0 0 -", "segment 0 1 0 2 -")         # line 1, open
+        self.from_open(first + first + last, "segment 0 0 0 0 -", "segment 0 1 0 1 -", "segment 0 1 2 0 -")  # line 2
+        self.from_open(segment("83804985"), "segment 0 0 0 0 -")                                      # line 3
+        self.from_open(last, "segment 0 1 0 1 -")                                                     # line 4
+        self.from_open(segment("83804285AA") + last, "segment 0 0 0 0 -", "segment 0 1 0 2 -")          # line 5
+        self.from_open(first + last, "segment 0 0 0 0 -", "segment 0 1 2 0 -")                          # line 7
 
     def test_joined_2048_and_2049(self):
-        for size, line in ((2048, "segment 0 1 2048 0"), (2049, "segment 0 1 0 2049")):
+        for size, line in ((2048, "segment 0 1 2048 0 -"), (2049, "segment 0 1 0 2049 -")):
             octets, lines = b"", []
             for k in range(9):
                 octets += segment("8380%02X85" % (73 if k == 0 else 9 - k) + "AA" * 227)
-                lines.append("segment 0 0 0 0")
+                lines.append("segment 0 0 0 0 -")
             octets += segment("83800085" + "BB" * (size - 9 * 227))
             self.from_open(octets, *lines, line)
 
     def test_timer(self):
         saved = segment("83804185AA")
         self.from_open(saved + clock(99) + clock(100) + clock(100),
-                       "segment 0 0 0 0", "clock 0 0 0 0", "clock 0 1 0 1", "clock 0 0 0 0")
+                       "segment 0 0 0 0 -", "clock 0 0 0 0", "clock 0 1 0 1", "clock 0 0 0 0")
         self.prints(context(3) + opening(11, 4294967290) + saved + clock(4) + clock(5) + clock(4),
-                    "open 0 0 0 0", "segment 0 0 0 0", "clock 0 0 0 0", "clock 0 1 0 1", "clock 13 0 0 0")
+                    "open 0 0 0 0", "segment 0 0 0 0 -", "clock 0 0 0 0", "clock 0 1 0 1", "clock 13 0 0 0")
         self.prints(context(3) + opening(100, 4294967290) + clock(5) + clock(4),
                     "open 0 0 0 0", "clock 0 0 0 0", "clock 13 0 0 0")
         self.from_open(clock(2 ** 31 - 1) + clock(2 ** 32 - 1) + clock(0),
@@ -168,27 +187,27 @@ class Cases(unittest.TestCase):
 
     def test_seventeen_sequences(self):
         octets = b"".join(segment("838041%02XAA" % (128 + k)) for k in range(17))
-        lines = ["segment 0 0 0 0"] * 16 + ["segment 10 0 0 0"]
-        self.from_open(octets + clock(100) + segment("83804190AA"), *lines, "clock 0 16 0 16", "segment 0 0 0 0")
+        lines = ["segment 0 0 0 0 -"] * 16 + ["segment 10 0 0 0 -"]
+        self.from_open(octets + clock(100) + segment("83804190AA"), *lines, "clock 0 16 0 16", "segment 0 0 0 0 -")
         self.from_open(octets + release(8) + release(9), *lines, "release 0 0 0 0", "release 0 16 0 16")
 
     def test_sixty_five_associations(self):
         """Who has no row is refused by 21, whatever the segment is: after what reading refuses, and after 10."""
         many = b"".join(segment("8380C0AA", k) for k in range(65534, 65470, -1))
-        lines = ["segment 0 1 1 0"] * 64
-        self.from_open(many + segment("8380C0AA", 0), *lines, "segment 21 0 0 0")
+        lines = ["segment 0 1 1 0 -"] * 64
+        self.from_open(many + segment("8380C0AA", 0), *lines, "segment 21 0 0 0 -")
         self.from_open(many + segment("83804185AA", 0) + segment("83800085AA", 0) + segment("83804A85AA", 0) + segment("8580C0AA", 0) + segment("8380", 0),
-                       *lines, *["segment 21 0 0 0"] * 3, "segment 8 0 0 0", "segment 5 0 0 0")
+                       *lines, *["segment 21 0 0 0 -"] * 3, "segment 8 0 0 0 0", "segment 5 0 0 0 2")
         self.from_open(many + segment("83804185AA", 65500) + release(65500) + release(0) + segment("8380C0AA", 0) + segment("8380C0AA", 65500),
-                       *lines, "segment 0 0 0 0", "release 0 1 0 1", "release 0 0 0 0", "segment 21 0 0 0", "segment 0 1 1 0")
+                       *lines, "segment 0 0 0 0 -", "release 0 1 0 1", "release 0 0 0 0", "segment 21 0 0 0 -", "segment 0 1 1 0 -")
         full = b"".join(segment("838041%02XAA" % (128 + k), 65534) for k in range(16))
-        self.from_open(many + full + segment("83804185AA", 0) + segment("8380C0AA", 0), *lines, *["segment 0 0 0 0"] * 16, "segment 10 0 0 0", "segment 21 0 0 0")
+        self.from_open(many + full + segment("83804185AA", 0) + segment("8380C0AA", 0), *lines, *["segment 0 0 0 0 -"] * 16, "segment 10 0 0 0 -", "segment 21 0 0 0 -")
         for timer, number in ((100, 0), (0, 12)):
-            self.from_open(many + opening(timer) + opening() + segment("8380C0AA", 0), *lines, "open %d 0 0 0" % number, "open 0 0 0 0", "segment 0 1 1 0")
+            self.from_open(many + opening(timer) + opening() + segment("8380C0AA", 0), *lines, "open %d 0 0 0" % number, "open 0 0 0 0", "segment 0 1 1 0 -")
 
     def test_origins_apart(self):
         self.from_open(segment("8480418502000700AA") + segment("848041850107" + "00BB") + segment("8480008502000700CC") + segment("848000850107" + "00DDEE"),
-                       "segment 0 0 0 0", "segment 0 0 0 0", "segment 0 1 2 0", "segment 0 1 3 0")
+                       "segment 0 0 0 0 -", "segment 0 0 0 0 -", "segment 0 1 2 0 -", "segment 0 1 3 0 -")
 
     def test_destinations_apart(self):
         """One origin, one reference: 21 and 22; 00 07 and 07; 07 and 07 00; and none beside 00."""
@@ -196,23 +215,23 @@ class Cases(unittest.TestCase):
             with self.subTest(one, other=other):
                 first, last, other_first, other_last = (segment("8480%s850131%s%s" % (heading, to, octets)) for to, heading, octets in
                                                         ((one, "41", "AA"), (one, "00", "CC"), (other, "41", "BBBB"), (other, "00", "DDDD")))
-                self.from_open(first + other_first + last + other_last, "segment 0 0 0 0", "segment 0 0 0 0", "segment 0 1 2 0", "segment 0 1 4 0")
-                self.from_open(first + other_first + other_last + last, "segment 0 0 0 0", "segment 0 0 0 0", "segment 0 1 4 0", "segment 0 1 2 0")
-                self.from_open(first + other_last + last, "segment 0 0 0 0", "segment 0 1 0 2", "segment 0 1 2 0")               # line 4, and the other stays open
-                self.from_open(first + segment("84804A850131%sEE" % other) + last, "segment 0 0 0 0", "segment 0 1 0 1", "segment 0 1 2 0")  # line 1, of itself alone
-                self.from_open(first + other_first + first + last + release(), "segment 0 0 0 0", "segment 0 0 0 0", "segment 0 1 0 1", "segment 0 1 2 0", "release 0 1 0 2")
+                self.from_open(first + other_first + last + other_last, "segment 0 0 0 0 -", "segment 0 0 0 0 -", "segment 0 1 2 0 -", "segment 0 1 4 0 -")
+                self.from_open(first + other_first + other_last + last, "segment 0 0 0 0 -", "segment 0 0 0 0 -", "segment 0 1 4 0 -", "segment 0 1 2 0 -")
+                self.from_open(first + other_last + last, "segment 0 0 0 0 -", "segment 0 1 0 2 -", "segment 0 1 2 0 -")               # line 4, and the other stays open
+                self.from_open(first + segment("84804A850131%sEE" % other) + last, "segment 0 0 0 0 -", "segment 0 1 0 1 -", "segment 0 1 2 0 -")  # line 1, of itself alone
+                self.from_open(first + other_first + first + last + release(), "segment 0 0 0 0 -", "segment 0 0 0 0 -", "segment 0 1 0 1 -", "segment 0 1 2 0 -", "release 0 1 0 2")
 
     def test_seventeen_destinations(self):
         """Each has a place of its own, and there are 16."""
         octets = b"".join(segment("848041850131%02X%sAA" % (k, "07" * k)) for k in range(17))
-        self.from_open(octets + clock(100), *["segment 0 0 0 0"] * 16, "segment 10 0 0 0", "clock 0 16 0 16")
+        self.from_open(octets + clock(100), *["segment 0 0 0 0 -"] * 16, "segment 10 0 0 0 -", "clock 0 16 0 16")
 
     def test_octets_past_the_length_do_not_count(self):
-        self.from_open(segment("8380C0AA", past=b"\xbb" * 200), "segment 0 1 1 0")
+        self.from_open(segment("8380C0AA", past=b"\xbb" * 200), "segment 0 1 1 0 -")
 
     def test_longer_than_any_block(self):
         once = segment("83814185AA") + segment("83800085BB") + release()
-        self.from_open(once * 3000, *["segment 0 0 0 0", "segment 0 1 2 0", "release 0 0 0 0"] * 3000)
+        self.from_open(once * 3000, *["segment 0 0 0 0 -", "segment 0 1 2 0 -", "release 0 0 0 0"] * 3000)
 
     def test_more_lines_than_any_block(self):
         self.from_open(release() * 60000, *["release 0 0 0 0"] * 60000)
@@ -260,6 +279,11 @@ class Garbage(unittest.TestCase):
         self.assertEqual([line.split(" ")[0] for line in lines], expected_names(octets), octets.hex())
         for line in lines:
             self.assertTrue(line == "stop" or LINE.fullmatch(line), line)
+
+    def test_what_a_line_looks_like(self):
+        for line, good in (("segment 6 0 0 0 1", True), ("segment 0 1 5 0 -", True), ("segment 10 0 0 0 -", True), ("clock 13 0 0 0", True), ("segment 5 0 0 0", False), ("segment 6 0 0 0 -", False),
+                           ("segment 10 0 0 0 1", False), ("segment 0 1 5 0 3", False), ("segment 1 0 0 0", False), ("open 0 0 0 0 -", False), ("segment 23 0 0 0 -", False)):
+            self.assertEqual(bool(LINE.fullmatch(line)), good, line)
 
     def test_random_octets(self):
         chance = random.Random(SEED)

@@ -17,7 +17,7 @@ import unittest
 
 sys.dont_write_bytecode = True
 
-from running import example, examples, process, run
+from running import FIELDS, example, examples, process, run, unwrapped
 from egrynnol_lib import commands, streams, traces, words
 
 
@@ -325,14 +325,19 @@ REGISTRY = "context 1998 3\ncontext 2000 4\nopen 100 0\n"
 
 
 def told(*parameters, registry=REGISTRY):
-    """What explain says of each parameter alone, as lists of lines; each meets a fresh opening."""
-    lines = explain_text(registry + "".join("segment 9 %s\nopen 100 0\n" % parameter for parameter in parameters)).splitlines()
-    found = []
-    for line in lines:
+    """What explain says of each parameter alone, as lists of lines: its fields, and last what is wrong. Each meets a fresh opening."""
+    found, fault, fields = [], None, False
+    for line in unwrapped(explain_text(registry + "".join("segment 9 %s\nopen 100 0\n" % parameter for parameter in parameters))):
         if ": segment, association 9" in line:
             found.append([])
-        elif found and line.startswith("        "):
+        elif ": open, T 100" in line and fault:
+            found[-1].append(fault)
+        elif fields and line.startswith("        "):
             found[-1].append(line.strip())
+        elif line.startswith("    read alone, ") and line != FIELDS:
+            fault = "wrong: " + line[len("    read alone, "):]
+        fields = line == FIELDS or fields and line.startswith("        ")
+        fault = None if line.startswith("line ") else fault
     return found if len(parameters) > 1 else found[0]
 
 
@@ -343,7 +348,7 @@ class Explained(unittest.TestCase):
     NONE = "instruction 0: send notification no, release call no"
 
     def test_examples_of_the_paper(self):
-        self.assertEqual(told(""), ["not read on: it ends where octet 1 should be"])
+        self.assertEqual(told(""), ["wrong: it ends where octet 1 should be, at position 0"])
         self.assertEqual(told("83 80 C0 AA BB"), [
             self.CONTEXT3, self.NONE, "new segment, 0 segments remaining",
             "unsegmented: no reference", "information: 2 octets"])
@@ -367,7 +372,8 @@ class Explained(unittest.TestCase):
         self.assertEqual(told("00 81 80 C0 AA"), [
             "context 128: not listed so far in this trace",
             self.NONE, "new segment, 0 segments remaining", "unsegmented: no reference",
-            "1 octet left: whether addresses are among them, the registry does not say"])
+            "1 octet left: whether addresses are among them, the registry does not say",
+            "wrong: context 128, whose last octet is at position 1, is not registered; registered: 3, 4"])
 
     def test_instruction(self):
         self.assertEqual(told("83 82 C0")[1], "instruction 2: send notification yes, release call no")
@@ -392,35 +398,57 @@ class Explained(unittest.TestCase):
     def test_refusals_are_the_programs(self):
         """Its number in words; and before any opening it is 1, whatever the parameter is."""
         lines = explain_text(REGISTRY + "".join("segment 9 %s\n" % parameter for parameter, _ in self.REFUSED)).splitlines()
-        refused = [line.strip() for line in lines if line.strip().startswith("refused")]
+        refused = [re.sub(r" at position \d+: ", ": ", line.strip()) for line in lines if line.startswith("    refused")]
         self.assertEqual(refused, ["refused %d: %s" % (number, words.REFUSALS[number]) for _, number in self.REFUSED])
+        self.assertEqual(sum("at position" in line for line in lines if line.startswith("    refused")), len(self.REFUSED))
         lines = explain_text("".join("segment 9 %s\n" % parameter for parameter, _ in self.REFUSED)).splitlines()
         refused = [line.strip() for line in lines if "refused" in line]
         self.assertEqual(refused, ["refused 1: %s" % words.REFUSALS[1]] * len(self.REFUSED))
+        self.assertNotIn("^^", "".join(lines))
 
     def test_reasons(self):
         cases = [
-            ("83", "it ends where octet 2 should be"),
-            ("83 80", "it ends where octet 3 should be"),
-            ("83 80 41", "it ends where octet 3a should be"),
-            ("05", "it ends where octet 1a should be"),
-            ("03 80 80 C0 AA", "octet 1a, octet 2 of it, has a zero upper part: context 3 is padded, and its shortest form is the one octet 83"),
-            ("00 80", "octet 1a, octet 2 of it, has a zero upper part: context 0 is padded, and its shortest form is the one octet 80"),
-            ("05 05", "octet 1a, octet 2 of it, has extension 0 where it has to be 1"),
-            ("83 00", "octet 2, octet 2 of it, has extension 0 where it has to be 1"),
-            ("83 80 41 05", "octet 3a, octet 4 of it, has extension 0 where it has to be 1"),
-            ("83 80 40 85", "octet 3 says new, 0 remaining, so octet 3a has to be absent, and it is present"),
-            ("83 80 80", "octet 3 does not say new, 0 remaining, so octet 3a has to be present, and it is absent"),
-            ("84 80 C0 15", "the length octet of the originating address says 21, over 20"),
-            ("84 80 C0 00 FF", "the length octet of the destination address says 255, over 20"),
-            ("84 80 C0", "it ends where the length octet of the originating address should be"),
-            ("84 80 C0 00 03 01", "it ends inside the destination address, with 1 of its 3 octets")]
+            ("83", "it ends where octet 2 should be, at position 1"),
+            ("83 80", "it ends where octet 3 should be, at position 2"),
+            ("83 80 41", "it ends where octet 3a should be, at position 3"),
+            ("05", "it ends where octet 1a should be, at position 1"),
+            ("03 80 80 C0 AA", "octet 1a, at position 1, has a zero upper part: context 3 is padded, and its shortest form is the one octet 83"),
+            ("00 80", "octet 1a, at position 1, has a zero upper part: context 0 is padded, and its shortest form is the one octet 80"),
+            ("05 05", "octet 1a, at position 1, is 05: extension 0, and it has to be 1 (80 to FF)"),
+            ("83 00", "octet 2, at position 1, is 00: extension 0, and it has to be 1 (80 to FF)"),
+            ("83 80 41 05", "octet 3a, at position 3, is 05: extension 0, and it has to be 1 (80 to FF)"),
+            ("83 80 40 85", "octet 3, at position 2, is 40 and says new, 0 remaining, so octet 3a has to be absent, and it is present"),
+            ("83 80 80", "octet 3, at position 2, is 80 and says subsequent, 0 remaining, so octet 3a has to be present, and it is absent"),
+            ("83 80 C1", "octet 3, at position 2, is C1 and says new, 1 remaining, so octet 3a has to be present, and it is absent"),
+            ("85 80 C0", "context 5, whose last octet is at position 0, is not registered; registered: 3, 4"),
+            ("05 81", "context 133, whose last octet is at position 1, is not registered; registered: 3, 4"),
+            ("80 80 C0", "context 0, whose last octet is at position 0, is never registered; registered: 3, 4"),
+            ("84 80 C0 15", "the length octet of the originating address, at position 3, says 21, and at most 20 is allowed"),
+            ("84 80 C0 00 FF", "the length octet of the destination address, at position 4, says 255, and at most 20 is allowed"),
+            ("84 80 C0", "it ends where the length octet of the originating address should be, at position 3"),
+            ("84 80 C0 00 03 01", "it ends inside the destination address, at position 6, with 1 of its 3 octets")]
         for lines, (_, reason) in zip(told(*(parameter for parameter, _ in cases)), cases):
-            self.assertEqual(lines[-1], "not read on: " + reason)
+            self.assertEqual(lines[-1], "wrong: " + reason)
+        self.assertEqual(told("85", registry="open 100 0\n")[-1], "wrong: context 5, whose last octet is at position 0, is not registered; registered: none")
+
+    def test_reasons_where_nothing_is_open(self):
+        """The parameter is not read then, so it is not blamed; what is wrong with it is still said."""
+        text = "\n".join(unwrapped(explain_text("context 1998 3\nsegment 9 83 00\nsegment 9 85 00\nsegment 9 83 80\n")))
+        octet2 = "octet 2, at position 1, is 00: extension 0, and it has to be 1 (80 to FF)"
+        for context, reason in (("context 3: listed as of 1998, no address fields", octet2), ("context 5: not listed so far in this trace", octet2)):
+            self.assertIn("    read alone, the parameter says:\n        %s\n        not read on: %s\n" % (context, reason), text)
+        self.assertTrue(text.endswith("        not read on: it ends where octet 3 should be, at position 2"), text)
+        self.assertEqual(text.count("read alone, "), 3)
+
+    def test_what_stands_behind_a_context_that_is_not_registered(self):
+        """It has no part in the refusal, and is read on all the same."""
+        self.assertEqual(told("85 00"), ["context 5: not listed so far in this trace",
+                                         "not read on: octet 2, at position 1, is 00: extension 0, and it has to be 1 (80 to FF)",
+                                         "wrong: context 5, whose last octet is at position 0, is not registered; registered: 3, 4"])
 
     def test_listed_so_far(self):
         self.assertEqual(told("83 80 C0", registry="open 100 0\n")[0], "context 3: not listed so far in this trace")
-        self.assertEqual(told("83 80 C0 01 02", registry="open 100 0\n")[-1],
+        self.assertEqual(told("83 80 C0 01 02", registry="open 100 0\n")[-2],
                          "2 octets left: whether addresses are among them, the registry does not say")
         self.assertEqual(told("7F FF", registry="context 1998 16383\n")[0], "context 16383: listed as of 1998, no address fields")
         self.assertEqual(told("80 80 C0", registry="context 1998 0\n")[0], "context 0: never registered")
@@ -515,15 +543,22 @@ class NoInformation(unittest.TestCase):
             octets = bytes(head[:dice.randint(0, 5)]) + some_octets(dice, 60)
             reading = words.read_alone(octets, registry)
             other = octets[:reading.at] + bytes(255 - o for o in octets[reading.at:])
-            self.assertEqual(reading.lines, words.read_alone(other, registry).lines, octets.hex())
-            seen.add(re.sub(r"\d+", "N", reading.lines[-1]))
-        for last in ("information: N octets", "not read on: it ends inside the originating address, with N of its N octets",
+            again = words.read_alone(other, registry)
+            self.assertEqual((reading.lines_but(None), reading.fault), (again.lines_but(None), again.fault), octets.hex())
+            seen.add(re.sub(r"\d+", "N", reading.lines_but(None)[-1]))
+            for position in (0, reading.at, len(octets)):
+                self.assertEqual(list(words.marked(octets, reading.at, position)), list(words.marked(other, again.at, position)), octets.hex())
+        for last in ("information: N octets", "not read on: it ends inside the originating address, at position N, with N of its N octets",
                      "N octets left: whether addresses are among them, the registry does not say"):
             self.assertIn(last, seen)
         self.assertGreater(len(seen), 15)
 
-    def test_a_cut_address_is_not_shown(self):
-        self.assertNotIn("5A", " ".join(told("84 80 C0 14 5A 5A 5A")))
+    def test_what_was_not_read_is_not_shown(self):
+        for parameter in ("84 80 C0 14 5A 5A 5A", "84 80 C0 00 14 5A 5A 5A", "85 80 C0 5A", "83 00 5A", "83 80 C1 5A", "84 80 C0 15 5A", "03 80 5A"):
+            text = explain_text(REGISTRY + "segment 9 %s\n" % parameter)
+            self.assertNotIn("5A", text)
+            self.assertIn(" ..", text)
+            self.assertRegex(text, r"\n        positions? \d+ (is|to \d+ are) not shown: what stands there may be information\n")
 
     def test_octets_past_the_length_are_not_shown(self):
         text = explain_text(REGISTRY + "segment 9 83 80 C0 | 5A 5A\n")

@@ -1,10 +1,12 @@
 //! What a run met, and whether it met enough.
 
+use std::collections::BTreeMap;
 use std::fmt;
 
 use crate::cases::Case;
 use crate::destinations::{self, WAYS};
 use crate::input::{Answer, Input, CALLS};
+use crate::positions::{self, Blame};
 use crate::summaries::{self, RULES as SUMMARY_RULES};
 use crate::traces;
 use crate::trips::Made;
@@ -84,6 +86,13 @@ const LINES: [&str; 10] = [
 /// The refusals that a trace can lead to: its areas and parameters are never too short or long.
 const IN_TRACES: [u8; 13] = [0, 1, 5, 6, 7, 8, 9, 10, 11, 12, 13, 21, 23];
 
+/// The positions at the ends of segments' lines. After that of the origin's length, they are later.
+const PLACED: [&str; 24] = [
+    "5 at 0", "5 at 1", "5 at 2", "5 at 3", "5 at 4", "5 at 5", "5 later", "6 at 1", "6 at 2",
+    "6 at 3", "6 at 4", "23 at 1", "7 at 2", "7 at 3", "8 at 0", "8 at 1", "9 at 3", "9 at 4",
+    "9 at 5", "9 later", "0 at -", "1 at -", "10 at -", "21 at -",
+];
+
 /// What the records program tells under the lines of the events, and after them.
 const UNDER: [&str; 4] = ["delivered", "lost", "dropped", "held"];
 
@@ -110,18 +119,23 @@ struct Tally {
     title: String,
     names: Vec<String>,
     met: Vec<u64>,
-    /// Met more seldom than the others.
-    seldom: bool,
+    /// Met more seldom than the others, by this factor.
+    seldom: u64,
 }
 
 impl Tally {
     fn new<T: ToString>(title: &str, names: impl IntoIterator<Item = T>) -> Tally {
         let names: Vec<String> = names.into_iter().map(|name| name.to_string()).collect();
-        Tally { title: title.to_string(), met: vec![0; names.len()], names, seldom: false }
+        Tally { title: title.to_string(), met: vec![0; names.len()], names, seldom: 1 }
     }
 
     fn seldom<T: ToString>(title: &str, names: impl IntoIterator<Item = T>) -> Tally {
-        Tally { seldom: true, ..Tally::new(title, names) }
+        Tally { seldom: 10, ..Tally::new(title, names) }
+    }
+
+    /// Of which each has to be met once, however many calls there are.
+    fn once<T: ToString>(title: &str, names: impl IntoIterator<Item = T>) -> Tally {
+        Tally { seldom: u64::MAX, ..Tally::new(title, names) }
     }
 
     fn add(&mut self, index: usize, times: u64) {
@@ -129,8 +143,12 @@ impl Tally {
     }
 
     fn add_named(&mut self, name: &str) {
+        self.add_times(name, 1);
+    }
+
+    fn add_times(&mut self, name: &str, times: u64) {
         let index = self.names.iter().position(|other| other == name);
-        self.met[index.expect("a name of this tally")] += 1;
+        self.add(index.expect("a name of this tally"), times);
     }
 
     fn sum(&self) -> u64 {
@@ -138,7 +156,7 @@ impl Tally {
     }
 
     fn missing(&self, least: u64) -> impl Iterator<Item = String> + '_ {
-        let least = if self.seldom { least.div_ceil(10) } else { least };
+        let least = least.div_ceil(self.seldom);
         let counters = self.names.iter().zip(&self.met).filter(move |(_, met)| **met < least);
         counters.map(move |(name, met)| format!("{}: {name}: {met} of {least}", self.title))
     }
@@ -165,6 +183,7 @@ pub struct Coverage {
     rules: Tally,
     rows: Tally,
     forms: Tally,
+    blames: Tally,
     beside: Tally,
     recorded: Tally,
     short: Tally,
@@ -172,6 +191,7 @@ pub struct Coverage {
     counts: Tally,
     lengths: Tally,
     trace_lines: Tally,
+    trace_positions: Tally,
     trace_ends: Tally,
     trace_records: Tally,
     trace_openings: Tally,
@@ -180,6 +200,7 @@ pub struct Coverage {
     trips: Tally,
     trip_counts: Tally,
     headers: Tally,
+    all_blames: Tally,
     exhaustive: u64,
 }
 
@@ -208,6 +229,13 @@ fn besides() -> impl Iterator<Item = String> {
     BESIDE.iter().flat_map(|what| WAYS.iter().map(move |way| format!("{what}, {way}")))
 }
 
+/// The octets that can be at fault, in short.
+fn blames() -> Vec<String> {
+    let mut names: Vec<String> = positions::all().map(|blame| blame.short_name()).collect();
+    names.dedup();
+    names
+}
+
 impl Coverage {
     pub fn new() -> Coverage {
         Coverage {
@@ -219,6 +247,7 @@ impl Coverage {
             rules: Tally::new("unsound tables and summaries", RULES.iter().chain(&SUMMARY_RULES)),
             rows: Tally::new("rows of summaries", ROWS_MET),
             forms: Tally::new("contexts by their octets", FORMS),
+            blames: Tally::seldom("octets at fault", blames()),
             beside: Tally::new("segments beside another destination's sequence", besides()),
             recorded: Tally::new("addresses in records", RECORDED),
             short: Tally::new("reports refused", SHORT),
@@ -226,6 +255,7 @@ impl Coverage {
             counts: Tally::new("sent, by count of segments", 1..=SEGMENTS),
             lengths: Tally::seldom("lengths of parameters", (0..=256).chain([257, 300])),
             trace_lines: Tally::seldom("lines of traces by refusal", IN_TRACES),
+            trace_positions: Tally::seldom("positions in lines of traces", PLACED),
             trace_ends: Tally::seldom("traces", ["to the end", "stopped"]),
             trace_records: Tally::seldom("lines under events, by name", UNDER),
             trace_openings: Tally::seldom("openings, by their used rows", OPENINGS),
@@ -234,6 +264,10 @@ impl Coverage {
             trips: Tally::new("round trips", TRIPS),
             trip_counts: Tally::new("round trips, by count of segments", 1..=SEGMENTS),
             headers: Tally::new("headers from end to end, by refusal", OF_HEADERS),
+            all_blames: Tally::once(
+                "octets at fault from end to end, by position",
+                positions::all().map(|blame| blame.name()),
+            ),
             exhaustive: 0,
         }
     }
@@ -246,6 +280,7 @@ impl Coverage {
             &self.rules,
             &self.rows,
             &self.forms,
+            &self.blames,
             &self.beside,
             &self.recorded,
             &self.short,
@@ -253,13 +288,14 @@ impl Coverage {
             &self.lengths,
         ];
         let calls = std::iter::once(&self.calls).chain(&self.refusals).chain(&self.pairs);
-        let headers = Some(&self.headers).filter(|_| self.exhaustive > 0);
-        calls.chain(rest).chain([&self.trips, &self.trip_counts]).chain(headers)
+        let whole = [&self.headers, &self.all_blames].into_iter().filter(|_| self.exhaustive > 0);
+        calls.chain(rest).chain([&self.trips, &self.trip_counts]).chain(whole)
     }
 
     fn of_traces(&self) -> impl Iterator<Item = &Tally> {
         let records = [&self.trace_records, &self.trace_destinations, &self.trace_openings];
-        [&self.trace_lines, &self.trace_ends, &self.trace_stops].into_iter().chain(records)
+        let lines = [&self.trace_lines, &self.trace_positions, &self.trace_ends, &self.trace_stops];
+        lines.into_iter().chain(records)
     }
 
     pub fn calls(&self) -> u64 {
@@ -315,6 +351,10 @@ impl Coverage {
         if let Input::Segment { table, parameter, .. } = &case.input {
             self.lengths.add(parameter.len().min(258), 1);
             self.form(table, parameter, answer.refusal());
+            // Those that come before reading are 1 to 4.
+            let read = !(1..=4).contains(&answer.refusal());
+            let blame = positions::blame(table, parameter).filter(|_| read);
+            blame.iter().for_each(|blame| self.blames.add_named(&blame.short_name()));
         }
         if answer.refusal() == 3 {
             self.short(&case.input);
@@ -472,9 +512,21 @@ impl Coverage {
             self.trace_openings.add(index, 1);
         }
         records.lines().for_each(|line| self.under(line));
+        text.lines().for_each(|line| self.placed(line));
         let refusals = text.lines().filter_map(|line| line.split(' ').nth(1));
         refusals.for_each(|refusal| self.trace_lines.add_named(refusal));
         self.trace_ends.add(usize::from(text.ends_with("stop\n")), 1);
+    }
+
+    /// A line of the replay program, if it is a segment's.
+    fn placed(&mut self, line: &str) {
+        let words: Vec<&str> = line.split(' ').collect();
+        let ["segment", refusal, .., position] = words[..] else { return };
+        let late = position.parse().is_ok_and(|position: usize| position > 5);
+        match late {
+            true => self.trace_positions.add_named(&format!("{refusal} later")),
+            false => self.trace_positions.add_named(&format!("{refusal} at {position}")),
+        }
     }
 
     /// A line of the records program, if it is one under an event.
@@ -495,9 +547,16 @@ impl Coverage {
         made.counts.iter().for_each(|count| self.trip_counts.add(count - 1, 1));
     }
 
-    /// All the calls from end to end, and the headers among them by their refusals.
-    pub fn count_exhaustive(&mut self, calls: u64, refusals: &[u64]) {
+    /// All the calls from end to end, the headers among them by their refusals, and the octets that
+    /// were at fault.
+    pub fn count_exhaustive(
+        &mut self,
+        calls: u64,
+        refusals: &[u64],
+        blames: &BTreeMap<Blame, u64>,
+    ) {
         self.exhaustive = calls;
+        blames.iter().for_each(|(blame, met)| self.all_blames.add_times(&blame.name(), *met));
         for (index, refusal) in OF_HEADERS.iter().enumerate() {
             self.headers.add(index, refusals[usize::from(*refusal)]);
         }

@@ -1,12 +1,29 @@
 //! Short ranges gone through from end to end, where chance might miss one value.
 
+use std::collections::BTreeMap;
+
 use crate::input::Input;
 use crate::pair::Pair;
+use crate::positions::{self, Blame};
 use crate::random::Random;
 use model::*;
 
 /// The destinations of the sequences of context 4: nothing else tells these apart.
 const DESTINATIONS: [(usize, &[u8]); 3] = [(7, &[7]), (12, &[7, 0]), (14, &[0, 7])];
+
+/// What short parameters are made of: contexts in one octet and in two, registered, padded and
+/// neither; each kind of octet 3; octets with extension 0 and 1; lengths up to 20 and over.
+const ALPHABET: [u8; 16] = [
+    0x00, 0x03, 0x05, 0x14, 0x15, 0x40, 0x41, 0x7F, 0x80, 0x81, 0x82, 0x83, 0x84, 0xC0, 0xC1, 0xFF,
+];
+
+/// The octets before the addresses, of contexts 4 and 256.
+const HEADS: [&[u8]; 4] = [
+    &[0x84, 0x80, 0xC0],
+    &[0x84, 0x80, 0x41, 0x85],
+    &[0x00, 0x82, 0x80, 0xC0],
+    &[0x00, 0x82, 0x80, 0x41, 0x85],
+];
 
 /// Contexts 3 of 1998, 4 of 2000 and 128 of 1998, and open sequences of each.
 fn table() -> Table {
@@ -31,6 +48,13 @@ fn table() -> Table {
         let key = Key { context: 4, origin, destination, ..place.key };
         table.places[index] = Place { key, ..place };
     }
+    table
+}
+
+/// The same with a context of 2000 in two octets too: 256.
+fn long_table() -> Table {
+    let mut table = table();
+    table.registry[7] = Entry { context: 256, kind: 2 };
     table
 }
 
@@ -60,11 +84,14 @@ pub struct Exhaustive<'p, 'a> {
     pub calls: u64,
     /// How often a header was refused by each number.
     pub refusals: [u64; 256],
+    /// How often each octet was at fault.
+    pub blames: BTreeMap<Blame, u64>,
 }
 
 impl<'p, 'a> Exhaustive<'p, 'a> {
     pub fn new(pair: &'p mut Pair<'a>, random: &'p mut Random) -> Self {
-        Exhaustive { pair, random, calls: 0, refusals: [0; 256] }
+        let blames = BTreeMap::new();
+        Exhaustive { pair, random, calls: 0, refusals: [0; 256], blames }
     }
 
     pub fn go(&mut self) -> Result<(), String> {
@@ -76,6 +103,9 @@ impl<'p, 'a> Exhaustive<'p, 'a> {
         self.neighbours(&[0x84, 0x80, 0x03, 0x85, 2, 0, 7, 1, 7, 0, 7, 0xAA], 7)?;
         self.neighbours(&[0x84, 0x80, 0x03, 0x85, 2, 0, 7, 2, 0, 7, 0xAA], 7)?;
         self.neighbours(&[0x84, 0x80, 0x03, 0x85, 2, 0, 7, 2, 0, 7, 0xAA], 8)?;
+        self.parameters(&mut vec![], 4)?;
+        HEADS.iter().try_for_each(|head| self.parameters(&mut head.to_vec(), 3))?;
+        HEADS.iter().try_for_each(|head| self.addresses(head))?;
         self.contexts()?;
         self.counts()?;
         self.fields()?;
@@ -101,7 +131,13 @@ impl<'p, 'a> Exhaustive<'p, 'a> {
         parameter: Vec<u8>,
     ) -> Result<u8, String> {
         let (store, report) = (STORE, RECORD);
-        self.run(Input::Segment { table, summary, store, report, association, parameter })
+        let blame = positions::blame(&table, &parameter);
+        let input = Input::Segment { table, summary, store, report, association, parameter };
+        let refusal = self.run(input)?;
+        if let Some(blame) = blame {
+            *self.blames.entry(blame).or_default() += 1;
+        }
+        Ok(refusal)
     }
 
     fn release(&mut self, table: Table, summary: Box<Summary>) -> Result<u8, String> {
@@ -120,6 +156,36 @@ impl<'p, 'a> Exhaustive<'p, 'a> {
             parameter[at..at + 2].copy_from_slice(&value.to_be_bytes());
             let refusal = self.segment(table, summary(), 9, parameter)?;
             self.refusals[usize::from(refusal)] += 1;
+        }
+        Ok(())
+    }
+
+    /// Every parameter that begins so and goes on with at most so many octets of the alphabet.
+    fn parameters(&mut self, front: &mut Vec<u8>, most: usize) -> Result<(), String> {
+        self.segment(long_table(), summary(), 9, front.clone())?;
+        if most == 0 {
+            return Ok(());
+        }
+        for octet in ALPHABET {
+            front.push(octet);
+            self.parameters(front, most - 1)?;
+            front.pop();
+        }
+        Ok(())
+    }
+
+    /// Addresses of every two lengths up to one too many, cut at every octet.
+    fn addresses(&mut self, head: &[u8]) -> Result<(), String> {
+        let lengths = (0..=ADDRESS + 1).flat_map(|i| (0..=ADDRESS + 1).map(move |j| [i, j]));
+        for [origin, destination] in lengths {
+            let mut whole = head.to_vec();
+            for length in [origin, destination] {
+                whole.push(length as u8);
+                whole.resize(whole.len() + length, 7);
+            }
+            for end in head.len()..=whole.len() {
+                self.segment(long_table(), summary(), 9, whole[..end].to_vec())?;
+            }
         }
         Ok(())
     }

@@ -189,8 +189,9 @@ impl fmt::Display for Answer {
         match self {
             Answer::Opened(opened) => write!(f, "refusal {}", opened.refusal),
             Answer::Received(received, part) => {
-                let Received { refusal, records, decision, .. } = received;
-                write!(f, "refusal {refusal}, records {records}, {decision:?}, {part:?}")
+                let Received { refusal, records, decision, position, .. } = received;
+                write!(f, "refusal {refusal}, position {position}, records {records}, ")?;
+                write!(f, "{decision:?}, {part:?}")
             }
             Answer::Swept(Swept { refusal, records, .. }) => {
                 write!(f, "refusal {refusal}, records {records}")

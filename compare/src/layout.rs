@@ -23,6 +23,8 @@ const _: () = {
     assert!(offset_of!(Decision, cause) == 25);
     assert!(size_of::<Received>() == 1_040 && offset_of!(Received, decision) == 1_000);
     assert!(offset_of!(Received, refusal) == 1_032 && offset_of!(Received, records) == 1_033);
+    // And the header's EGRYNNOL_NOWHERE.
+    assert!(offset_of!(Received, position) == 1_034 && NOWHERE == 65_535);
     assert!(size_of::<Swept>() == 1_004 && offset_of!(Swept, refusal) == 1_000);
     assert!(offset_of!(Swept, records) == 1_001);
     assert!(size_of::<Opened>() == 1_004 && offset_of!(Opened, refusal) == 1_000);

@@ -17,6 +17,7 @@ mod library;
 #[cfg(all(feature = "library", not(target_arch = "x86_64")))]
 mod octets;
 mod pair;
+mod positions;
 mod random;
 mod run;
 mod scene;

@@ -127,8 +127,9 @@ impl Shape for Received {
             decision: Decision::read(fields),
             refusal: fields.octet(),
             records: fields.octet(),
+            position: fields.short(),
         };
-        fields.pass::<6>();
+        fields.pass::<4>();
         received
     }
 }
@@ -212,6 +213,8 @@ mod tests {
         assert_eq!(counted::<Swept>().0.records, offset_of!(Swept, records) as u8);
         let place = counted::<Received>().0.decision.place.to_le_bytes()[0];
         assert_eq!(place, offset_of!(Received, decision) as u8);
+        let position = counted::<Received>().0.position.to_le_bytes()[0];
+        assert_eq!(position, offset_of!(Received, position) as u8);
     }
 
     /// Each field is read where it lies.

@@ -3,7 +3,7 @@
 use crate::input::{hex, Answer, Input};
 use crate::random::Random;
 use crate::side::Side;
-use crate::{billed, contexts, destinations, summaries};
+use crate::{billed, contexts, destinations, positions, summaries};
 use model::{Summary, ROWS, SWEEP};
 
 /// Octets before and after each lent area, which no call may write.
@@ -95,6 +95,7 @@ impl<'a> Pair<'a> {
         let report = self.report();
         let wrong = billed::wrong(input, answer, self.summary(), report)
             .or_else(|| contexts::wrong(input, answer, report))
+            .or_else(|| positions::wrong(input, answer))
             .or_else(|| destinations::wrong(input, answer, report));
         match wrong {
             None => Ok(()),

@@ -78,8 +78,9 @@ impl<'a> Run<'a> {
         if !only_traces && calls >= LONG {
             let mut exhaustive = Exhaustive::new(&mut pair, &mut noise);
             let done = exhaustive.go();
-            self.coverage.count_exhaustive(exhaustive.calls, &exhaustive.refusals);
-            done.map_err(|text| self.found("call from end to end", exhaustive.calls - 1, text))?;
+            let Exhaustive { calls, refusals, blames, .. } = exhaustive;
+            self.coverage.count_exhaustive(calls, &refusals, &blames);
+            done.map_err(|text| self.found("call from end to end", calls - 1, text))?;
         }
         Ok(())
     }
@@ -157,17 +158,32 @@ mod tests {
         }
     }
 
-    /// What A1 asks of the rows, A2 of the contexts and A3 of the destinations is asked of both
-    /// sides, so that a break they share is found too.
+    /// What A1 asks of the rows, A2 of the contexts, A3 of the destinations and A5 of the positions
+    /// is asked of both sides, so that a break they share is found too.
     #[test]
     fn shared_breaks_of_the_requests_are_found() {
         let mut arguments = arguments();
         arguments.only_calls = true;
         let first = Fault::ALL.iter().position(|fault| *fault == Fault::RefusedCounted);
-        let last = Fault::ALL.iter().position(|fault| *fault == Fault::OldKinds);
+        let last = Fault::ALL.iter().position(|fault| *fault == Fault::NowhereOctet);
         for fault in &Fault::ALL[first.unwrap_or(0)..=last.unwrap_or(0)] {
             let other: &'static Model = Box::leak(Box::new(Model::with(*fault)));
             let mut run = Run { other, ..Run::new(&arguments, *other) };
+            assert!(run.go().is_err(), "{}", fault.name());
+        }
+    }
+
+    /// What A5 asks of the programs' lines is asked of both sides too.
+    #[test]
+    fn shared_breaks_of_the_lines_are_found() {
+        let mut arguments = arguments();
+        arguments.only_traces = true;
+        let first = Fault::ALL.iter().position(|fault| *fault == Fault::PositionUntold);
+        let last = Fault::ALL.iter().position(|fault| *fault == Fault::PositionLast);
+        for fault in &Fault::ALL[first.unwrap_or(0)..=last.unwrap_or(0)] {
+            let model = Model::with(*fault);
+            let replayer = Replayer::Model(model);
+            let mut run = Run { replayer, ..Run::new(&arguments, model) };
             assert!(run.go().is_err(), "{}", fault.name());
         }
     }

@@ -6,8 +6,9 @@ use std::path::PathBuf;
 use std::process::{Command, Stdio};
 use std::thread;
 
-use crate::cases::damage_wire;
+use crate::cases::{damage_wire, end_inside};
 use crate::input::hex;
+use crate::positions;
 use crate::random::Random;
 use crate::scene;
 use crate::tables;
@@ -150,7 +151,7 @@ impl Scribe<'_> {
         wire.fit();
         let mut parameter = wire.octets();
         if held.contains(&5) {
-            parameter.truncate(self.random.below(wire.header().len()));
+            parameter.truncate(end_inside(self.random, wire));
         }
         parameter
     }
@@ -277,6 +278,9 @@ pub fn trace(random: &mut Random) -> Trace {
 pub fn compare(model: &Model, other: &Replayer, trace: &[u8]) -> Result<[String; 3], String> {
     let one = |which| compare_one(model, other, trace, which);
     let texts = [one(0)?, one(1)?, one(2)?];
+    if let Some(wrong) = positions::misprinted(&texts[0], &texts[1]) {
+        return Err(format!("{wrong}trace: {}\n", hex(trace)));
+    }
     let told: Vec<_> = openings(&texts[2]).into_iter().map(|(_, rows)| rows).collect();
     match told == added_up(&texts[1]) {
         true => Ok(texts),

@@ -133,13 +133,14 @@ impl Ends<'_> {
             trip.key.association,
             &segment,
         );
-        let refused = Received { table, refusal: 23, ..Received::default() };
+        let refused = Received::refused(table, 23, 1);
         let nothing = (totals, &saved[..], report) == (summary, store, [0; RECORD]);
         match got == refused && nothing {
             true => Ok(1),
             false => {
-                let Received { refusal, decision, .. } = got;
-                let why = format!("padded, {} gives {refusal}, {decision:?}", hex(&segment));
+                let Received { refusal, decision, position, .. } = got;
+                let given = format!("{refusal}, position {position}, {decision:?}");
+                let why = format!("padded, {} gives {given}", hex(&segment));
                 Err(trip.failed(&why, &table))
             }
         }

@@ -240,8 +240,10 @@ run; 3 the trace ended by 'stop'; 64 the command line is wrong.
 
 REPLAY = """\
 Runs the proved program replay on each trace and prints its lines: name,
-refusal number or 0, records, octets delivered, octets lost. A last line 'stop'
-says that the trace was not understood from there on. See egrynnol-trace(5).
+refusal number or 0, records, octets delivered, octets lost. A segment's line
+ends with the position, from 0, of the octet that it was refused for, or with
+'-' where no octet is to blame. A last line 'stop' says that the trace was not
+understood from there on. See egrynnol-trace(5).
 """
 
 RECORDS = """\
@@ -253,11 +255,12 @@ See egrynnol-trace(5).
 JSON with one object a line. The columns are the same: file; row (event,
 delivered, lost, dropped, held, stop); event, its number from 1; line, of a
 text, or offset, of octets; then the event's name, refusal, records,
-octets_delivered, octets_lost, decision and place; then a record's
-association, context, reference (none for an unsegmented parameter),
-instruction, cause, segments, octets, origin and destination (both in hex; in
-CSV with 0x before them, since a spreadsheet takes 0007 and 07 for one number).
-What a row does not have is empty in CSV and null in JSON.
+octets_delivered, octets_lost, position (of the octet at fault, where a segment
+was refused for one), decision and place; then a record's association, context,
+reference (none for an unsegmented parameter), instruction, cause, segments,
+octets, origin and destination (both in hex; in CSV with 0x before them, since
+a spreadsheet takes 0007 and 07 for one number). What a row does not have is
+empty in CSV and null in JSON.
 """
 
 TOTALS = """\
@@ -291,6 +294,13 @@ by an opening, held at the end, and where it stops. All that is the answer of
 the proved program records. What a parameter's fields say stands after 'read
 alone': that is of the parameter and not of what became of it. Of the
 information only the length is told.
+
+Where an octet of a parameter is to blame for a refusal (5 to 9 and 23), the
+octets are shown in hex, 16 a line, each line behind the position of its first
+octet, and ^^ stands under the octet at the position that records answered; for
+5 that is the first one that is missing. '..' is an octet that was not read:
+it may be information. Under that stands, read alone, what should be there.
+Positions count from 0.
 """
 
 ENCODE = """\

@@ -11,7 +11,7 @@ from egrynnol_lib.streams import Failed
 from egrynnol_lib.traces import OPEN, WORDS, Bad, parsed
 
 # row: event, delivered, lost, dropped, held or stop. What a row has no part in is None.
-COLUMNS = ("file", "row", "event", "line", "offset", "name", "refusal", "records", "octets_delivered", "octets_lost", "decision", "place",
+COLUMNS = ("file", "row", "event", "line", "offset", "name", "refusal", "records", "octets_delivered", "octets_lost", "position", "decision", "place",
            "association", "context", "reference", "instruction", "cause", "segments", "octets", "origin", "destination")
 ADDRESSES = ("origin", "destination")
 Row = collections.namedtuple("Row", COLUMNS)
@@ -19,26 +19,34 @@ NOTHING = Row(*[None] * len(COLUMNS))
 
 NUMBER = r"([0-9]{1,19})"
 ADDRESS = r"((?:[0-9A-F]{2})+|-)"
-EVENT = re.compile(r"(open|segment|clock|release) N N N N N (?:(refused) N|(saved) N|(delivered|lost|-))\Z".replace("N", NUMBER))
-UNDER = re.compile(r"(delivered|lost|dropped|held) N N (-|[0-9]{1,19}) N N N N A A\Z".replace("A", ADDRESS).replace("N", NUMBER))
+OR_NONE = r"(-|[0-9]{1,19})"
+# A segment's line has a position, and no other one has.
+EVENT = re.compile(r"((segment)|open|clock|release) N N N N(?(2) P) N (?:(refused) N|(saved) N|(delivered|lost|-))\Z".replace("N", NUMBER).replace("P", OR_NONE))
+UNDER = re.compile(r"(delivered|lost|dropped|held) N N P N N N N A A\Z".replace("A", ADDRESS).replace("N", NUMBER).replace("P", OR_NONE))
+
+
+def number_or_none(word):
+    return None if word in (None, "-") else int(word)
 
 
 def row_of(line):
     """The row of a line that records printed."""
     event, under = EVENT.match(line), UNDER.match(line)
     if event:
-        name, *numbers = event.groups()[:6]
-        refused, number, saved, place, other = event.groups()[6:]
+        name, _, *numbers = event.groups()[:8]
+        refused, number, saved, place, other = event.groups()[8:]
         if numbers[0] != (number or "0"):
             raise Failed("records printed refusals that differ: %s" % line)
+        if number is None and numbers[4] not in (None, "-"):
+            raise Failed("records printed a position where nothing is refused: %s" % line)
         decision = refused or saved or (other if other != "-" else None)
-        numbers = dict(zip(("refusal", "records", "octets_delivered", "octets_lost", "event"), map(int, numbers)))
-        return NOTHING._replace(row="event", name=name, decision=decision, place=int(place) if place else None, **numbers)
+        numbers = dict(zip(("refusal", "records", "octets_delivered", "octets_lost", "position", "event"), map(number_or_none, numbers)))
+        return NOTHING._replace(row="event", name=name, decision=decision, place=number_or_none(place), **numbers)
     if under:
         name, association, context, reference, *numbers, origin, destination = under.groups()
         numbers = dict(zip(("instruction", "cause", "segments", "octets"), map(int, numbers)))
         addresses = {address: "" if word == "-" else word for address, word in zip(ADDRESSES, (origin, destination))}
-        return NOTHING._replace(row=name, association=int(association), context=int(context), reference=None if reference == "-" else int(reference),
+        return NOTHING._replace(row=name, association=int(association), context=int(context), reference=number_or_none(reference),
                                 **numbers, **addresses)
     if line == "stop":
         return NOTHING._replace(row="stop")

@@ -1,6 +1,11 @@
 """A trace in words: what the proved programs answered, and beside it what each parameter says when it is read alone."""
 
+import collections
+import textwrap
+
 from egrynnol_lib.traces import FORMS, OPEN, SEGMENT, hexed
+
+COLUMNS = 80  # of a screen
 
 REFUSALS = {
     1: "table or summary not sound: here, nothing is open, for there was no opening or the last one was refused",
@@ -18,7 +23,7 @@ REFUSALS = {
     13: "the clock's step is 2^31 or more, which is a step back",
     21: "no row for a new association: 64 have one",
     22: "a total would pass 2^63",
-    23: "the context is padded: octet 1a has a zero upper part, and one octet would do",
+    23: "context padded: octet 1a has a zero upper part",
 }
 CAUSES = {
     1: "a later segment, and no sequence of its key is open",
@@ -35,41 +40,61 @@ def count(number, what="octet"):
     return "%d %s%s" % (number, what, "" if number == 1 else "s")
 
 
+def wrapped(line, indent):
+    """A line that is cut at blanks where a screen ends, and goes on so far to the right."""
+    return textwrap.wrap(line, COLUMNS, subsequent_indent=" " * indent, break_long_words=False, break_on_hyphens=False)
+
+
 # ---- one parameter, read alone ----
 
+# What is wrong with a parameter: the number that refuses it, the position of the octet at fault, from 0, and what should be there.
+Fault = collections.namedtuple("Fault", "number position words")
+
+
 class Ends(Exception):
-    """Reading a parameter alone goes no further; the text says why."""
+    """Reading a parameter alone goes no further."""
 
 
 class Reading:
     """A parameter read from left to right, told line by line; never what the information is.
-    It knows nothing of what is open, so it says nothing of what the machine did."""
+    It knows nothing of what is open, so it says nothing of what the machine did.
+    fault is the first one, and end the one after which nothing is read. The octets before at were read."""
 
     def __init__(self, octets):
-        self.octets, self.at, self.lines = octets, 0, []
+        self.octets, self.at, self.lines, self.fault, self.end = octets, 0, [], None, None
+
+    def ends(self, number, position, words):
+        self.end = Fault(number, position, words)
+        self.fault = self.fault or self.end
+        raise Ends()
 
     def octet(self, name):
         if self.at == len(self.octets):
-            raise Ends("it ends where %s should be" % name)
+            self.ends(5, self.at, "it ends where %s should be, at position %d" % (name, self.at))
         self.at += 1
         return self.octets[self.at - 1]
 
     def last_octet(self, name):
         """An octet that has to end its field."""
-        value = self.octet(name)
+        at, value = self.at, self.octet(name)
         if value < 128:
-            raise Ends("%s, octet %d of it, has extension 0 where it has to be 1" % (name, self.at))
+            self.ends(6, at, "%s, at position %d, is %02X: extension 0, and it has to be 1 (80 to FF)" % (name, at, value))
         return value - 128
 
     def context(self, registry):
         first = self.octet("octet 1")
         high = self.last_octet("octet 1a") if first < 128 else 0
+        last = self.at - 1
         if first < 128 and not high:
-            raise Ends("octet 1a, octet %d of it, has a zero upper part: context %d is padded, and its shortest form is the one octet %02X"
-                       % (self.at, first, first + 128))
+            self.ends(23, last, "octet 1a, at position %d, has a zero upper part: context %d is padded, and its shortest form is the one octet %02X"
+                      % (last, first, first + 128))
         context = first % 128 + 128 * high
+        kinds = registry.kinds(context)
         self.lines.append("context %d: %s" % (context, registry.words(context)))
-        return registry.kinds(context)
+        if not kinds:
+            self.fault = Fault(8, last, "context %d, whose last octet is at position %d, is %s registered; registered: %s"
+                               % (context, last, "not" if context else "never", registry.contexts()))
+        return kinds
 
     def instruction(self):
         value = self.last_octet("octet 2")
@@ -79,29 +104,28 @@ class Reading:
                           % (value % 4, answer[value // 2 % 2], answer[value % 2], spare))
 
     def sequence(self):
-        value = self.octet("octet 3")
+        at, value = self.at, self.octet("octet 3")
         present, new, remaining = value < 128, value // 64 % 2 == 1, value % 64
         over = " (over 9, more than a sequence can have)" if remaining > 9 else ""
-        self.lines.append("%s segment, %s remaining%s"
-                          % ("new" if new else "subsequent", count(remaining, "segment"), over))
+        name = "new" if new else "subsequent"
+        self.lines.append("%s segment, %s remaining%s" % (name, count(remaining, "segment"), over))
         if present:
             self.lines.append("reference %d" % self.last_octet("octet 3a"))
         single = new and remaining == 0
-        if single and present:
-            raise Ends("octet 3 says new, 0 remaining, so octet 3a has to be absent, and it is present")
-        if not single and not present:
-            raise Ends("octet 3 does not say new, 0 remaining, so octet 3a has to be present, and it is absent")
+        if single == present:
+            self.ends(7, at, "octet 3, at position %d, is %02X and says %s, %d remaining, so octet 3a has to be %s, and it is %s"
+                      % (at, value, name, remaining, *(("absent", "present") if single else ("present", "absent"))))
         if single:
             self.lines.append("unsegmented: no reference")
 
     def address(self, name):
-        length = self.octet("the length octet of the %s address" % name)
+        at, length = self.at, self.octet("the length octet of the %s address" % name)
         if length > 20:
-            raise Ends("the length octet of the %s address says %d, over 20" % (name, length))
+            self.ends(9, at, "the length octet of the %s address, at position %d, says %d, and at most 20 is allowed" % (name, at, length))
         left = len(self.octets) - self.at
         # A cut address is not shown: what is there may be information.
         if left < length:
-            raise Ends("it ends inside the %s address, with %d of its %s" % (name, left, count(length)))
+            self.ends(5, len(self.octets), "it ends inside the %s address, at position %d, with %d of its %s" % (name, len(self.octets), left, count(length)))
         octets = self.octets[self.at:self.at + length]
         self.at += length
         self.lines.append("%s address: %s%s" % (name, count(length), ": " + hexed(octets) if octets else ""))
@@ -116,6 +140,11 @@ class Reading:
             self.address("destination")
         self.lines.append("information: %s" % count(len(self.octets) - self.at))
 
+    def lines_but(self, said):
+        """What it says, and why it was not read on, where that is not what was said before."""
+        ends = self.end is not None and self.end is not said
+        return self.lines + (["not read on: %s" % self.end.words] if ends else [])
+
 
 def read_alone(octets, registry):
     """The reading of a parameter, as far as it can be read alone."""
@@ -125,8 +154,8 @@ def read_alone(octets, registry):
         reading.instruction()
         reading.sequence()
         reading.rest(kinds)
-    except Ends as end:
-        reading.lines.append("not read on: %s" % end)
+    except Ends:
+        pass
     return reading
 
 
@@ -141,6 +170,10 @@ class Registry:
 
     def kinds(self, context):
         return {kind for listed, kind in self.listed if listed == context and context}
+
+    def contexts(self):
+        """All that are listed, and can be registered."""
+        return ", ".join("%d" % context for context in sorted({context for context, _ in self.listed if context})) or "none"
 
     def words(self, context):
         kinds = self.kinds(context)
@@ -164,6 +197,32 @@ class Registry:
             yield "%s are listed, over 8" % count(len(contexts), "context")
 
 
+# ---- the octets around the one at fault ----
+
+A_LINE, GROUP = 16, 8  # octets of a line, and of a group in it
+BEFORE = 2             # lines before the one that has the mark: no field that can be at fault lies further back
+
+
+def column(place):
+    """Where an octet of a line begins."""
+    return 3 * place + place // GROUP
+
+
+def marked(octets, read, position):
+    """A parameter in hex up to the line that has the position, with a mark under it; each line begins with the position of its first octet.
+    Octets that were not read may be information: of these it is shown only where they are."""
+    shown = ["%02X" % octet for octet in octets[:read]] + [".."] * (len(octets) - read)
+    last = position // A_LINE * A_LINE
+    for first in range(max(0, last - BEFORE * A_LINE), last + 1, A_LINE):
+        label = "%3d  " % first
+        groups = (" ".join(shown[at:at + GROUP]) for at in range(first, first + A_LINE, GROUP))
+        yield (label + "  ".join(groups)).rstrip()
+    yield " " * (len(label) + column(position - last)) + "^^"
+    if read < len(octets):
+        where = "position %d is" % read if read + 1 == len(octets) else "positions %d to %d are" % (read, len(octets) - 1)
+        yield "%s not shown: what stands there may be information" % where
+
+
 # ---- what was answered ----
 
 def address(name, digits):
@@ -182,13 +241,27 @@ def fields(row):
 def answer_lines(row):
     """What was decided of an event, and the sum where its records are more than one."""
     if row.decision == "refused":
-        yield "refused %d: %s" % (row.refusal, REFUSALS.get(row.refusal, "a number that a trace does not meet"))
+        where = "" if row.position is None else " at position %d" % row.position
+        yield "refused %d%s: %s" % (row.refusal, where, REFUSALS.get(row.refusal, "a number that a trace does not meet"))
     elif row.decision == "saved":
         yield "saved in place %d" % row.place
     elif row.decision is None:
         yield "accepted" + ("" if row.records or row.name == "open" else ", nothing lost")
     if row.records > 1:
         yield "%s: %s delivered, %s lost" % (count(row.records, "record"), count(row.octets_delivered), count(row.octets_lost))
+
+
+def compared(row, reading):
+    """The fault of a parameter read alone beside the one that was answered: the fault, where it is the same, and words for it.
+    Where nothing is open, no parameter is read."""
+    answered = None if row.position is None else (row.refusal, row.position)
+    found = None if reading.fault is None else reading.fault[:2]
+    if row.refusal == 1 or answered is found is None:
+        return None, None
+    if answered == found:
+        return reading.fault, reading.fault.words
+    other = "no fault is found" if found is None else "the fault is refusal %d at position %d" % found
+    return None, other + ", and that is not what the program answered; its answer counts"
 
 
 def under_line(row):
@@ -239,12 +312,23 @@ class Teller:
         for line in answer_lines(row):
             yield "    " + line
         if item.record.kind == SEGMENT:
-            self.alone = ["    read alone, the parameter says:"]
-            self.alone += ["        " + line for line in read_alone(item.record.octets, self.registry).lines]
-            if item.record.past:
-                self.alone.append("        octets past its length are not all zero; they do not count")
+            yield from self.parameter(row, item.record)
         elif row.refusal == 11:
             self.alone = ["    read alone, of the registry: %s" % line for line in self.registry.oddities()]
+
+    def parameter(self, row, record):
+        """Around the octet at fault, if one is; what is read alone waits until the event's records are told."""
+        reading = read_alone(record.octets, self.registry)
+        if row.position is not None:
+            for line in marked(record.octets, reading.at, row.position):
+                yield "        " + line
+        said, words = compared(row, reading)
+        lines = reading.lines_but(said)
+        if record.past:
+            lines.append("octets past its length are not all zero; they do not count")
+        self.alone = wrapped("    read alone, %s" % words, 8) if words else []
+        self.alone += ["    read alone, the parameter says:"] if lines else []
+        self.alone += [part for line in lines for part in wrapped("        " + line, 12)]
 
     def under(self, row):
         if row.row == "held" and not self.held:

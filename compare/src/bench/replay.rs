@@ -3,6 +3,7 @@
 
 use std::fs::{self, File};
 use std::io::{self, Read, Write};
+use std::ops::RangeInclusive;
 use std::path::{Path, PathBuf};
 use std::process::{Command, ExitCode, Stdio};
 use std::time::Instant;
@@ -120,19 +121,21 @@ fn begins_with(records: &[u8], replay: &[u8]) -> bool {
     let [records, replay] = [records, replay].map(String::from_utf8_lossy);
     let names = ["open", "segment", "clock", "release"];
     let events = records.lines().filter(|line| names.iter().any(|name| line.starts_with(name)));
-    let fronts = events.map(|line| line.splitn(6, ' ').take(5).collect::<Vec<_>>().join(" "));
-    fronts.eq(replay.lines().map(String::from))
+    let fields = |line: &str| if line.starts_with("segment") { 6 } else { 5 };
+    let fronts = events.map(|line| line.split(' ').take(fields(line)).collect::<Vec<_>>());
+    fronts.eq(replay.lines().map(|line| line.split(' ').collect::<Vec<_>>()))
 }
 
 /// Whether the rows have the octets delivered and lost that the replay program's lines have.
 fn adds_up(totals: &[u8], replay: &[u8]) -> bool {
-    let sums = |text: &[u8], words: usize, columns: [usize; 2]| {
+    let sums = |text: &[u8], words: RangeInclusive<usize>, columns: [usize; 2]| {
         let text = String::from_utf8_lossy(text);
         let lines: Vec<Vec<&str>> = text.lines().map(|line| line.split(' ').collect()).collect();
-        let lines = lines.iter().filter(|line| line.len() == words);
+        let lines = lines.iter().filter(|line| words.contains(&line.len()));
         columns.map(|at| lines.clone().map(|line| line[at].parse().unwrap_or(0)).sum::<u64>())
     };
-    sums(totals, 7, [4, 6]) == sums(replay, 5, [3, 4])
+    // A segment's line has the position too.
+    sums(totals, 7..=7, [4, 6]) == sums(replay, 5..=6, [3, 4])
 }
 
 fn timed(

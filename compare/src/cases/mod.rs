@@ -12,7 +12,7 @@ use crate::tables;
 use crate::unsound::{self, RULES};
 use model::*;
 
-pub use receiving::damage_wire;
+pub use receiving::{damage_wire, end_inside};
 
 pub struct Case {
     pub input: Input,

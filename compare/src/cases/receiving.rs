@@ -27,7 +27,7 @@ impl World {
         wire.fit();
         let mut parameter = wire.octets();
         if held.contains(&5) {
-            parameter.truncate(random.below(wire.header().len()));
+            parameter.truncate(end_inside(random, &wire));
         }
         if held.contains(&4) {
             let length = random.pick(&[256, 256, 257, 300]);
@@ -78,8 +78,20 @@ fn fitting(random: &mut Random, table: &Table, held: &mut Vec<u8>) -> Scene {
     scene::scene(random, table)
 }
 
+/// Where a parameter ends inside its fields: often before or right after its addresses begin.
+pub fn end_inside(random: &mut Random, wire: &Wire) -> usize {
+    let header = wire.header().len();
+    let most = if random.one_in(2) { header.min(6) } else { header };
+    random.below(most)
+}
+
 /// Refusals 6 to 9 and 23. A context over 127 stays as it is where only 23 is asked for.
 pub fn damage_wire(random: &mut Random, table: &Table, wire: &mut Wire, held: &[u8]) {
+    let only_read = held.iter().all(|number| matches!(number, 5..=9 | 23));
+    if !held.is_empty() && only_read && random.one_in(3) {
+        // Its addresses stand one octet sooner.
+        (wire.new, wire.remaining, wire.reference) = (true, 0, None);
+    }
     wire.padded = held.contains(&23);
     if held.contains(&8) {
         let most = if wire.padded { 127 } else { *CONTEXTS.end() };

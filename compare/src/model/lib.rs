@@ -1,5 +1,5 @@
-//! The model: a second implementation of document 01 (01-scope.md) and of A1 to A3 of document 02
-//! (02-change-requests.md), against which the proved library is compared call by call.
+//! The model: a second implementation of document 01 (01-scope.md) and of A1 to A3 and A5 of
+//! document 02 (02-change-requests.md), against which the proved library is compared call by call.
 //!
 //! Independence. It was written from document 01 and the team's readings of it (readings.md);
 //! whoever wrote it did not read the library's rules, its code or its decisions. From the library
@@ -12,10 +12,13 @@
 //! written from document 02 and the readings, by one who had read of the library its C header; and
 //! so was A2 (refusal 23, in `segment`), when that header had nothing of it yet. A3 (the destination
 //! in key, place, record and listing) was written from the same, the header having its shapes, before
-//! there was a library that had it.
+//! there was a library that had it. A5 (a position with 5 to 9 and 23, and at the end of a segment's
+//! line) was written from the same, before the header or a library had it: of its interface, only the
+//! field and the number for none were known. A refusal with its position was put into four octets
+//! later, for measuring.
 //!
 //! Style. Bits are first read into small types in which only what is good can be written: a
-//! `Cursor` and `?` for the octets, `Position` for octets 3 and 3a, `Line` for the receiving
+//! `Cursor` and `?` for the octets, `Turn` for octets 3 and 3a, `Line` for the receiving
 //! rules. A call first works out its whole effect as a value and writes only then, so a refusal,
 //! which is an `Err`, cannot have written anything.
 //!

@@ -1,11 +1,12 @@
 //! Receiving a segment: the lines of document 01, what each does, and then doing it.
 
 use crate::record::{Covered, Record};
-use crate::segment::{Position, Segment};
+use crate::refusal::Refused;
+use crate::segment::{Segment, Turn};
 use crate::sound::{without_destination, OPEN};
 use crate::summary::{bill, Bill, Seats};
 use crate::{Address, Decision, Fault, Key, Machine, Place, Received, Refusal, Summary, Table};
-use crate::{OLD_RECORD, PARAMETER, PLACES, RECORD, STORE, STRETCH};
+use crate::{NOWHERE, OLD_RECORD, PARAMETER, PLACES, RECORD, STORE, STRETCH};
 
 /// The receiving line that applies, with the place it concerns.
 #[derive(Clone, Copy, Debug)]
@@ -70,15 +71,16 @@ impl<const B: bool> Machine<B> {
                 let effect = self.effect(&table, &segment, line);
                 self.carry_out(effect, &segment, table, store, report)
             }
-            Err(refusal) => {
+            Err(refused) => {
+                let Refused { refusal, position } = refused;
                 if self.broken(Fault::RefusedReport) {
                     report.iter_mut().take(1).for_each(|octet| *octet = refusal.number());
                 }
                 if self.broken(Fault::RefusedCounted) && refusal != Refusal::Unsound {
                     count_refused(summary, association);
                 }
-                let (decision, refusal) = (Decision::default(), refusal.number());
-                Received { table, decision, refusal, records: 0 }
+                let position = self.told_position(position);
+                Received::refused(table, refusal.number(), position)
             }
         }
     }
@@ -91,14 +93,15 @@ impl<const B: bool> Machine<B> {
         lengths: Lengths,
         association: u16,
         parameter: &'a [u8],
-    ) -> Result<Taken<'a>, Refusal> {
+    ) -> Result<Taken<'a>, Refused> {
         self.sound(table)?;
         let mut seats = Seats::EMPTY;
         self.take_seats(&mut seats, summary, &table.places)?;
         Refusal::ShortStore.unless(lengths.store >= STORE)?;
         let least = if self.broken(Fault::OldReport) { OLD_RECORD } else { RECORD };
         Refusal::ShortReport.unless(lengths.report >= least)?;
-        Refusal::LongParameter.unless(parameter.len() <= PARAMETER)?;
+        let long = Refusal::LongParameter.unless(parameter.len() <= PARAMETER);
+        long.map_err(|refusal| self.placed(Fault::LongPlaced, refusal, PARAMETER))?;
         let segment = self.read(table, association, parameter)?;
         if self.broken(Fault::RowBeforeFull) {
             self.seat(&seats, summary, association)?;
@@ -106,10 +109,29 @@ impl<const B: bool> Machine<B> {
         if self.broken(Fault::TotalBeforeFull) {
             self.account(&seats, summary, association, &[1, 0, 0, 0, 0, 0])?;
         }
-        let line = self.line(table, &segment)?;
+        let line = self.line(table, &segment);
+        let line =
+            line.map_err(|refusal| self.placed(Fault::FullPlaced, refusal, segment.start))?;
         let bill = self.bill_of(table, &segment, line);
         let row = self.account(&seats, summary, association, &bill)?;
         Ok(Taken { segment, line, row, bill })
+    }
+
+    /// A refusal that is at no octet: only a fault says one.
+    fn placed(&self, fault: Fault, refusal: Refusal, position: usize) -> Refused {
+        match self.broken(fault) {
+            true => refusal.at(position),
+            false => refusal.into(),
+        }
+    }
+
+    /// A position as it is answered: only a fault has another number for none.
+    fn told_position(&self, position: u16) -> u16 {
+        match self.fault() {
+            Some(Fault::NowhereZero) if position == NOWHERE => 0,
+            Some(Fault::NowhereOctet) if position == NOWHERE => 255,
+            _ => position,
+        }
     }
 
     /// Refusals 21 and 22, and else the row.
@@ -158,21 +180,21 @@ impl<const B: bool> Machine<B> {
 
     fn line(&self, table: &Table, segment: &Segment) -> Result<Line, Refusal> {
         let open = self.find(table, &segment.key);
-        Ok(match (segment.position, open) {
-            (Position::Alone, _) => Line::Unsegmented,
-            (Position::First(10..), Some(index)) if self.broken(Fault::RestartBeforeRemaining) => {
+        Ok(match (segment.turn, open) {
+            (Turn::Alone, _) => Line::Unsegmented,
+            (Turn::First(10..), Some(index)) if self.broken(Fault::RestartBeforeRemaining) => {
                 Line::Restart(index)
             }
-            (Position::First(10..) | Position::Later(10..), _) => Line::TooMany(open),
-            (Position::First(_), Some(index)) => {
+            (Turn::First(10..) | Turn::Later(10..), _) => Line::TooMany(open),
+            (Turn::First(_), Some(index)) => {
                 if self.broken(Fault::FullRefusesRestart) {
                     self.free(table)?;
                 }
                 Line::Restart(index)
             }
-            (Position::First(_), None) => Line::Begin(self.free(table)?),
-            (Position::Later(_), None) => Line::Orphan,
-            (Position::Later(remaining), Some(index)) => {
+            (Turn::First(_), None) => Line::Begin(self.free(table)?),
+            (Turn::Later(_), None) => Line::Orphan,
+            (Turn::Later(remaining), Some(index)) => {
                 self.later_line(table, index, remaining, segment.information.len())
             }
         })
@@ -254,7 +276,11 @@ impl<const B: bool> Machine<B> {
             *slot = self.octets(record);
         }
         let records = effect.record.iter().count() as u8;
-        Received { table, decision: effect.decision, refusal: 0, records }
+        let position = match self.broken(Fault::AcceptedPlaced) {
+            true => segment.start as u16,
+            false => self.told_position(NOWHERE),
+        };
+        Received { table, decision: effect.decision, refusal: 0, records, position }
     }
 
     /// A segment that was never saved: the record has its own addresses.
@@ -322,7 +348,7 @@ impl<const B: bool> Machine<B> {
         Place {
             octets: place.octets + segment.information.len() as u16,
             segments: place.segments + 1,
-            remaining: segment.position.remaining(),
+            remaining: segment.turn.remaining(),
             start,
             ..*place
         }
@@ -368,7 +394,7 @@ fn first(table: &Table, segment: &Segment) -> Place {
         start: table.clock,
         mark: OPEN,
         instruction: segment.instruction,
-        remaining: segment.position.remaining(),
+        remaining: segment.turn.remaining(),
         segments: 1,
     }
 }

@@ -1,7 +1,8 @@
 //! A parameter read into its fields.
 
 use crate::cursor::Cursor;
-use crate::{Address, Fault, Key, Machine, Refusal, Table, UNSEGMENTED};
+use crate::refusal::Refused;
+use crate::{Address, Fault, Key, Machine, Refusal, Table, NOWHERE, UNSEGMENTED};
 
 /// Which edition's layout a registered context has.
 #[derive(Clone, Copy, Debug, PartialEq, Eq)]
@@ -12,7 +13,7 @@ pub enum Edition {
 
 /// Where a segment stands in its sequence and how many follow it.
 #[derive(Clone, Copy, Debug, PartialEq, Eq)]
-pub enum Position {
+pub enum Turn {
     /// Unsegmented.
     Alone,
     First(u8),
@@ -24,17 +25,17 @@ pub struct Segment<'a> {
     /// The reference is 255 where the segment is alone.
     pub key: Key,
     pub instruction: u8,
-    pub position: Position,
+    pub turn: Turn,
     /// The information is the parameter's tail; this is where it starts.
     pub start: usize,
     pub information: &'a [u8],
 }
 
-impl Position {
+impl Turn {
     pub fn remaining(self) -> u8 {
         match self {
-            Position::Alone => 0,
-            Position::First(remaining) | Position::Later(remaining) => remaining,
+            Turn::Alone => 0,
+            Turn::First(remaining) | Turn::Later(remaining) => remaining,
         }
     }
 }
@@ -52,25 +53,26 @@ impl Table {
 }
 
 impl<const B: bool> Machine<B> {
-    /// Refusals 5 to 9 and 23, in the order in which the octets show them.
+    /// Refusals 5 to 9 and 23, in the order in which the octets show them, each at its octet.
     pub(crate) fn read<'a>(
         &self,
         table: &Table,
         association: u16,
         parameter: &'a [u8],
-    ) -> Result<Segment<'a>, Refusal> {
+    ) -> Result<Segment<'a>, Refused> {
         let mut cursor = Cursor::new(parameter);
-        let (context, mut edition) = self.context(table, &mut cursor)?;
+        let (context, mut edition) =
+            self.field(&mut cursor, |cursor| self.context(table, cursor))?;
         if self.broken(Fault::AddressesAlways) {
             edition = Edition::Of2000;
         }
         let spare = if self.broken(Fault::SpareRead) { 0x7f } else { 0b11 };
-        let instruction = cursor.last()? & spare;
-        let (position, reference) = self.position(&mut cursor)?;
+        let instruction = self.field(&mut cursor, Cursor::last)? & spare;
+        let (turn, reference) = self.field(&mut cursor, |cursor| self.turn(cursor))?;
         let [mut origin, mut destination] = [Address::default(); 2];
         if edition == Edition::Of2000 {
-            origin = self.address(&mut cursor)?;
-            destination = self.address(&mut cursor)?;
+            origin = self.field(&mut cursor, |cursor| self.address(cursor))?;
+            destination = self.field(&mut cursor, |cursor| self.address(cursor))?;
         }
         if self.broken(Fault::AddressesSwapped) {
             std::mem::swap(&mut origin, &mut destination);
@@ -78,24 +80,39 @@ impl<const B: bool> Machine<B> {
         let key = Key { association, context, origin, destination, reference };
         let information = cursor.rest();
         let start = parameter.len() - information.len();
-        Ok(Segment { key, instruction, position, start, information })
+        Ok(Segment { key, instruction, turn, start, information })
+    }
+
+    /// Reads one field. Only a fault moves the position of a refusal.
+    fn field<'a, T>(
+        &self,
+        cursor: &mut Cursor<'a>,
+        read: impl FnOnce(&mut Cursor<'a>) -> Result<T, Refused>,
+    ) -> Result<T, Refused> {
+        let start = cursor.position();
+        read(cursor).map_err(|refused| match self.fault() {
+            Some(fault) => moved(fault, refused, start),
+            None => refused,
+        })
     }
 
     /// Octet 1, and 1a if it is there: a context with its edition. Octet 1a is refused for its
     /// extension (6), then for saying nothing (23), and only then is the context looked up (8).
-    fn context(&self, table: &Table, cursor: &mut Cursor) -> Result<(u16, Edition), Refusal> {
+    fn context(&self, table: &Table, cursor: &mut Cursor) -> Result<(u16, Edition), Refused> {
         let (low, more) = cursor.extended()?;
         if self.broken(Fault::PaddedEarly) && more {
             let mut ahead = *cursor;
-            Refusal::PaddedContext.unless(ahead.extended()?.0 != 0)?;
+            Refusal::PaddedContext.at(cursor.position()).unless(ahead.extended()?.0 != 0)?;
         }
         let high = if more { cursor.last()? } else { 0 };
+        let last = cursor.position() - 1;
         let context = u16::from(high) << 7 | u16::from(low);
-        let edition = || table.edition(context).ok_or(Refusal::Unregistered);
+        let edition = || table.edition(context).ok_or(Refusal::Unregistered.at(last));
         if self.broken(Fault::PaddedLate) {
             edition()?;
         }
-        Refusal::PaddedContext.unless(!more || !self.padded(context, cursor.rest()))?;
+        let padded = more && self.padded(context, cursor.rest());
+        Refusal::PaddedContext.at(last).unless(!padded)?;
         Ok((context, edition()?))
     }
 
@@ -114,26 +131,51 @@ impl<const B: bool> Machine<B> {
     }
 
     /// Octet 3, and 3a if it is there, with the reference.
-    fn position(&self, cursor: &mut Cursor) -> Result<(Position, u8), Refusal> {
+    fn turn(&self, cursor: &mut Cursor) -> Result<(Turn, u8), Refused> {
+        let wrong = Refusal::Octet3a.at(cursor.position());
         let (bits, more) = cursor.extended()?;
         let (new, remaining) = (bits & 0x40 != 0, bits & 0x3f);
         if self.broken(Fault::Octet3aEarly) {
-            Refusal::Octet3a.unless(more != (new && remaining == 0))?;
+            wrong.unless(more != (new && remaining == 0))?;
         }
         let reference = more.then(|| cursor.last()).transpose()?;
         match (new, remaining, reference) {
-            (true, 0, None) => Ok((Position::Alone, UNSEGMENTED)),
-            (true, 0, Some(_)) | (_, _, None) => Err(Refusal::Octet3a),
-            (true, _, Some(reference)) => Ok((Position::First(remaining), reference)),
-            (false, _, Some(reference)) => Ok((Position::Later(remaining), reference)),
+            (true, 0, None) => Ok((Turn::Alone, UNSEGMENTED)),
+            (true, 0, Some(_)) | (_, _, None) => Err(wrong),
+            (true, _, Some(reference)) => Ok((Turn::First(remaining), reference)),
+            (false, _, Some(reference)) => Ok((Turn::Later(remaining), reference)),
         }
     }
 
-    fn address(&self, cursor: &mut Cursor) -> Result<Address, Refusal> {
+    fn address(&self, cursor: &mut Cursor) -> Result<Address, Refused> {
         if self.broken(Fault::AddressLate) {
             let length = cursor.rest().first().map_or(0, |length| usize::from(*length));
-            Refusal::Cut.unless(length < cursor.rest().len())?;
+            let end = cursor.position() + cursor.rest().len();
+            Refusal::Cut.at(end).unless(length < cursor.rest().len())?;
         }
         cursor.address()
     }
+}
+
+/// The octet that a fault blames, in a field that starts at `start`.
+fn moved(fault: Fault, refused: Refused, start: usize) -> Refused {
+    let Refused { refusal, position } = refused;
+    if position == NOWHERE {
+        return refused;
+    }
+    let at = usize::from(position);
+    let position = match (fault, refusal) {
+        (Fault::PositionsFrom1, _) => at + 1,
+        (Fault::NextBlamed, Refusal::Cut | Refusal::Octet3a) => at,
+        (Fault::NextBlamed, _) => at + 1,
+        (Fault::CutAtField, Refusal::Cut) => start,
+        (Fault::CutAtLast, Refusal::Cut) => at.saturating_sub(1),
+        (Fault::ExtensionAtField, Refusal::Extension) => start,
+        (Fault::Octet3aBlamed, Refusal::Octet3a) => at + 1,
+        (Fault::ContextStart, Refusal::Unregistered) => start,
+        (Fault::AddressBlamed, Refusal::LongAddress) => at + 1,
+        (Fault::PaddedStart, Refusal::PaddedContext) => start,
+        _ => at,
+    };
+    refusal.at(position)
 }

@@ -28,6 +28,8 @@ pub const TIMERS: RangeInclusive<u32> = 1..=1_000_000;
 pub const CONTEXTS: RangeInclusive<u16> = 1..=16_383;
 /// A record's reference where the parameter was not segmented.
 pub const UNSEGMENTED: u8 = 255;
+/// The position where no octet is at fault.
+pub const NOWHERE: u16 = 65_535;
 /// Rows of a summary.
 pub const ROWS: usize = 64;
 /// What a total may become, and no more.
@@ -152,12 +154,21 @@ pub struct Decision {
 }
 
 #[repr(C)]
-#[derive(Clone, Copy, Debug, Default, PartialEq, Eq)]
+#[derive(Clone, Copy, Debug, PartialEq, Eq)]
 pub struct Received {
     pub table: Table,
     pub decision: Decision,
     pub refusal: u8,
     pub records: u8,
+    /// Of the octet at fault, or `NOWHERE`.
+    pub position: u16,
+}
+
+impl Received {
+    /// The table as it came, and nothing made.
+    pub fn refused(table: Table, refusal: u8, position: u16) -> Received {
+        Received { table, decision: Decision::default(), refusal, records: 0, position }
+    }
 }
 
 #[repr(C)]

@@ -1,4 +1,4 @@
-//! Document 01's worked examples, and the rules of A1, A2 and A3.
+//! Document 01's worked examples, and the rules of A1, A2, A3 and A5.
 
 use crate::*;
 
@@ -98,13 +98,18 @@ fn refusal(parameter: &[u8]) -> u8 {
 
 /// The same with other contexts registered.
 fn refusal_with(registry: &[u8], parameter: &[u8]) -> u8 {
+    refused(registry, parameter).0
+}
+
+/// The same with the position.
+fn refused(registry: &[u8], parameter: &[u8]) -> (u8, u16) {
     let mut host = Host::open_with(registry, 0);
     let table = host.table;
     let received = host.segment(parameter);
     assert_eq!((received.table, host.summary), (table, Summary::EMPTY));
     assert_eq!((received.records, received.decision), (0, Decision::default()));
     assert!(host.store.iter().chain(&host.report).all(|octet| *octet == 0xEE));
-    received.refusal
+    (received.refusal, received.position)
 }
 
 /// The cause of a loss: decision and record have to agree.
@@ -271,7 +276,7 @@ fn replay_example() {
         event(&[0x83, 0x80, 0x00, 0x85, 0xBB]),
         vec![35, 0, 9],
     ];
-    let expected = "open 0 0 0 0\nsegment 0 0 0 0\nsegment 0 1 2 0\nrelease 0 0 0 0\n";
+    let expected = "open 0 0 0 0\nsegment 0 0 0 0 -\nsegment 0 1 2 0 -\nrelease 0 0 0 0\n";
     assert_eq!(MODEL.replay(&trace.concat()), expected);
 }
 
@@ -302,8 +307,8 @@ fn records_lines() {
         event(&[0x83, 0x80, 0x41, 0x86, 0xCC]),
         vec![35, 0, 8],
     ];
-    let expected = "open 0 0 0 0 1 -\nsegment 0 0 0 0 2 saved 0\nsegment 0 1 2 0 3 delivered\n\
-        delivered 9 3 5 1 0 2 2 - -\nsegment 0 0 0 0 4 saved 0\nrelease 0 0 0 0 5 -\nheld 9 3 6 0 0 1 1 - -\n";
+    let expected = "open 0 0 0 0 1 -\nsegment 0 0 0 0 - 2 saved 0\nsegment 0 1 2 0 - 3 delivered\n\
+        delivered 9 3 5 1 0 2 2 - -\nsegment 0 0 0 0 - 4 saved 0\nrelease 0 0 0 0 5 -\nheld 9 3 6 0 0 1 1 - -\n";
     assert_eq!(records(&trace), expected);
     let (zero, cut) = (vec![32; 1], vec![33]);
     let zero = [zero, vec![0; 8]].concat();
@@ -319,34 +324,37 @@ fn records_lines() {
         event(&[0x83, 0x82, 0xC0]),
         cut,
     ];
-    let expected = "open 0 0 0 0 1 -\nsegment 0 0 0 0 2 saved 0\nsegment 0 0 0 0 3 saved 1\n\
+    let expected = "open 0 0 0 0 1 -\nsegment 0 0 0 0 - 2 saved 0\nsegment 0 0 0 0 - 3 saved 1\n\
         open 12 0 0 0 4 refused 12\ndropped 9 4 5 0 0 1 1 0007 -\ndropped 9 3 5 1 0 1 1 - -\n\
-        segment 1 0 0 0 5 refused 1\nopen 0 0 0 0 6 -\nsegment 0 0 0 0 7 saved 0\n\
-        segment 0 1 0 0 8 delivered\ndelivered 9 3 - 2 0 1 0 - -\nheld 9 3 5 1 0 1 1 - -\nstop\n";
+        segment 1 0 0 0 - 5 refused 1\nopen 0 0 0 0 6 -\nsegment 0 0 0 0 - 7 saved 0\n\
+        segment 0 1 0 0 - 8 delivered\ndelivered 9 3 - 2 0 1 0 - -\nheld 9 3 5 1 0 1 1 - -\nstop\n";
     assert_eq!(records(&trace), expected);
 }
 
-/// Readings of the order of refusals 5 to 9. `05 80` was 8 before A2.
+/// Readings of the order of refusals 5 to 9, and of their positions. `05 80` was 8 before A2.
 #[test]
 fn readings() {
-    let cases: &[(&[u8], u8)] = &[
-        (&[0x83, 0x80, 0x40], 5),
-        (&[0x83, 0x80, 0x40, 0x05], 6),
-        (&[0x84, 0x80, 0x40, 0x85, 0x15], 7),
-        (&[0x84, 0x80, 0xC1], 7),
-        (&[0x83, 0x80, 0x80], 7),
-        (&[0x05], 5),
-        (&[0x05, 0x05], 6),
-        (&[0x05, 0x80], 23),
-        (&[0x05, 0x81], 8),
-        (&[0x80, 0x80], 8),
-        (&[0x84, 0x80, 0xC0, 0x15], 9),
-        (&[0x84, 0x80, 0xC0, 0x14], 5),
-        (&[0x84, 0x80, 0xC0, 0x00, 0x15], 9),
-        (&[0x84, 0x80, 0xC0, 0x00], 5),
+    let cases: &[(&[u8], u8, u16)] = &[
+        (&[], 5, 0),
+        (&[0x83, 0x80, 0x40], 5, 3),
+        (&[0x83, 0x80, 0x40, 0x05], 6, 3),
+        (&[0x83, 0x80, 0x40, 0x85], 7, 2),
+        (&[0x84, 0x80, 0x40, 0x85, 0x15], 7, 2),
+        (&[0x84, 0x80, 0xC1], 7, 2),
+        (&[0x83, 0x80, 0x80], 7, 2),
+        (&[0x05], 5, 1),
+        (&[0x05, 0x05], 6, 1),
+        (&[0x05, 0x80], 23, 1),
+        (&[0x05, 0x81], 8, 1),
+        (&[0x85], 8, 0),
+        (&[0x80, 0x80], 8, 0),
+        (&[0x84, 0x80, 0xC0, 0x15], 9, 3),
+        (&[0x84, 0x80, 0xC0, 0x14], 5, 4),
+        (&[0x84, 0x80, 0xC0, 0x00, 0x15], 9, 4),
+        (&[0x84, 0x80, 0xC0, 0x00], 5, 4),
     ];
-    for (parameter, expected) in cases {
-        assert_eq!(refusal(parameter), *expected, "{parameter:02X?}");
+    for (parameter, number, position) in cases {
+        assert_eq!(refused(&REGISTRY, parameter), (*number, *position), "{parameter:02X?}");
     }
 }
 
@@ -603,7 +611,7 @@ fn a_padded_segment_touches_nothing() {
     let before = (host.table, host.summary, host.store.clone(), host.report.clone());
     for octet3 in [0x00, 0x01, 0x41, 0x42, 0x4A] {
         let received = host.segment(&[0x03, 0x80, 0x80, octet3, 0x85, 0xBB]);
-        let refused = Received { table: before.0, refusal: 23, ..Received::default() };
+        let refused = Received::refused(before.0, 23, 1);
         assert_eq!(received, refused);
     }
     let Host { table, summary, store, report } = &host;
@@ -650,8 +658,8 @@ fn equal_contexts_mean_equal_octets() {
 #[test]
 fn padded_lines() {
     let trace = [vec![1, 0, 3], OPEN.to_vec(), event(&[0x03, 0x80, 0x80, 0xC0, 0xAA])].concat();
-    assert_eq!(MODEL.replay(&trace), "open 0 0 0 0\nsegment 23 0 0 0\n");
-    let expected = "open 0 0 0 0 1 -\nsegment 23 0 0 0 2 refused 23\n";
+    assert_eq!(MODEL.replay(&trace), "open 0 0 0 0\nsegment 23 0 0 0 1\n");
+    let expected = "open 0 0 0 0 1 -\nsegment 23 0 0 0 1 2 refused 23\n";
     assert_eq!(MODEL.printed(&trace, crate::Output::Records), expected);
     assert_eq!(MODEL.printed(&trace, crate::Output::Totals), "opening 1 0\n");
 }
@@ -859,10 +867,86 @@ fn destinations_in_lines() {
         OPEN.to_vec(),
         event(&[0x84, 0x80, 0x41, 0x85, 0, 3, 0, 0, 0x0F]),
     ];
-    let expected = "open 0 0 0 0 1 -\nsegment 0 0 0 0 2 saved 0\nsegment 0 1 3 0 3 delivered\n\
-        delivered 9 4 5 0 0 2 3 0007 0102\nsegment 0 1 0 1 4 lost\nlost 9 4 5 0 1 1 1 07 -\n\
-        segment 0 0 0 0 5 saved 0\nsegment 0 0 0 0 6 saved 1\nopen 0 0 0 0 7 -\n\
+    let expected = "open 0 0 0 0 1 -\nsegment 0 0 0 0 - 2 saved 0\nsegment 0 1 3 0 - 3 delivered\n\
+        delivered 9 4 5 0 0 2 3 0007 0102\nsegment 0 1 0 1 - 4 lost\nlost 9 4 5 0 1 1 1 07 -\n\
+        segment 0 0 0 0 - 5 saved 0\nsegment 0 0 0 0 - 6 saved 1\nopen 0 0 0 0 7 -\n\
         dropped 9 4 5 0 0 1 0 0007 AB00\ndropped 9 4 5 0 0 1 0 0007 AB\n\
-        segment 0 0 0 0 8 saved 0\nheld 9 4 5 0 0 1 0 - 00000F\n";
+        segment 0 0 0 0 - 8 saved 0\nheld 9 4 5 0 0 1 0 - 00000F\n";
+    assert_eq!(records(&trace), expected);
+}
+
+/// With octet 1a all that follows stands one later, and with 3a the addresses do.
+#[test]
+fn positions_after_1a_and_3a() {
+    let registry = [1, 0, 128, 2, 1, 0];
+    let cases: &[(&[u8], u8, u16)] = &[
+        (&[0x00, 0x81], 5, 2),
+        (&[0x00, 0x81, 0x00], 6, 2),
+        (&[0x00, 0x81, 0x80], 5, 3),
+        (&[0x00, 0x81, 0x80, 0xC1], 7, 3),
+        (&[0x00, 0x81, 0x80, 0x40, 0x85], 7, 3),
+        (&[0x00, 0x81, 0x80, 0x41], 5, 4),
+        (&[0x00, 0x81, 0x80, 0x41, 0x05], 6, 4),
+        (&[0x01, 0x81, 0x80, 0x41, 0x05], 8, 1),
+        (&[0x00, 0x82, 0x80, 0xC0], 5, 4),
+        (&[0x00, 0x82, 0x80, 0xC0, 0x15], 9, 4),
+        (&[0x00, 0x82, 0x80, 0x41, 0x85, 0xFF], 9, 5),
+        (&[0x00, 0x82, 0x80, 0x41, 0x85, 2, 7], 5, 7),
+        (&[0x00, 0x82, 0x80, 0x41, 0x85, 2, 7, 7], 5, 8),
+        (&[0x00, 0x82, 0x80, 0x41, 0x85, 2, 7, 7, 21], 9, 8),
+        (&[0x00, 0x82, 0x80, 0x41, 0x85, 2, 7, 7, 3, 1, 2], 5, 11),
+    ];
+    for (parameter, number, position) in cases {
+        assert_eq!(refused(&registry, parameter), (*number, *position), "{parameter:02X?}");
+    }
+}
+
+/// A segment that is taken, and the refusals that are at no octet.
+#[test]
+fn nowhere() {
+    let mut host = Host::open(0);
+    for parameter in [&[0x83, 0x80, 0xC0][..], &[0x83, 0x80, 0x41, 0x85], &[0x83, 0x80, 0, 0x86]] {
+        let received = host.segment(parameter);
+        assert_eq!((received.refusal, received.position), (0, NOWHERE));
+    }
+    assert_eq!(refused(&REGISTRY, &[0x05; 256]), (4, NOWHERE));
+    let Host { mut summary, .. } = host;
+    let unopened = Table::default();
+    for (table, store, report, number) in
+        [(unopened, STORE, RECORD, 1), (host.table, 1, RECORD, 2), (host.table, STORE, 1, 3)]
+    {
+        let (mut store, mut report) = (vec![0; store], vec![0; report]);
+        let received = MODEL.segment(table, &mut summary, &mut store, &mut report, 9, &[0x05]);
+        assert_eq!((received.refusal, received.position), (number, NOWHERE));
+    }
+    for reference in 0x90..=0x9F {
+        host.segment(&[0x83, 0x80, 0x41, reference]);
+    }
+    let received = host.segment(&[0x83, 0x80, 0x41, 0xFF]);
+    assert_eq!((received.refusal, received.position), (10, NOWHERE));
+}
+
+/// The line of a segment ends with the position or with `-`; no other line has the field.
+#[test]
+fn positions_in_lines() {
+    let trace = [
+        event(&[0x05, 0x05]),
+        vec![1, 0, 3],
+        OPEN.to_vec(),
+        event(&[0x05, 0x05]),
+        event(&[]),
+        event(&[0x83, 0x80, 0xC0, 1, 2, 3, 4, 5]),
+        event(&[0x85]),
+        vec![34, 0, 0, 0, 1],
+        vec![35, 0, 9],
+        vec![36],
+    ];
+    let expected = "segment 1 0 0 0 -\nopen 0 0 0 0\nsegment 6 0 0 0 1\nsegment 5 0 0 0 0\n\
+        segment 0 1 5 0 -\nsegment 8 0 0 0 0\nclock 0 0 0 0\nrelease 0 0 0 0\nstop\n";
+    assert_eq!(MODEL.replay(&trace.concat()), expected);
+    let expected = "segment 1 0 0 0 - 1 refused 1\nopen 0 0 0 0 2 -\n\
+        segment 6 0 0 0 1 3 refused 6\nsegment 5 0 0 0 0 4 refused 5\n\
+        segment 0 1 5 0 - 5 delivered\ndelivered 9 3 - 0 0 1 5 - -\n\
+        segment 8 0 0 0 0 6 refused 8\nclock 0 0 0 0 7 -\nrelease 0 0 0 0 8 -\nstop\n";
     assert_eq!(records(&trace), expected);
 }

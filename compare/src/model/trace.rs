@@ -3,8 +3,8 @@
 use std::fmt::Write;
 
 use crate::cursor::Cursor;
-use crate::{Decision, Fault, Machine, Received, Summary, Table};
-use crate::{DELIVERED, LOST, OLD_RECORD, PARAMETER, RECORD, STORE, SWEEP};
+use crate::{Decision, Fault, Machine, Received, Summary, Swept, Table};
+use crate::{DELIVERED, LOST, NOWHERE, OLD_RECORD, PARAMETER, RECORD, STORE, SWEEP};
 
 /// Which program's text is printed.
 #[derive(Clone, Copy, Debug, PartialEq, Eq)]
@@ -39,6 +39,8 @@ struct Told {
     refusal: u8,
     records: u8,
     decision: Decision,
+    /// Of a segment alone.
+    position: Option<u16>,
 }
 
 /// A replay that is under way: table, summary, lent areas and the registry as read so far.
@@ -115,6 +117,11 @@ fn pass_records(cursor: &mut Cursor) {
     }
 }
 
+fn swept_told(name: &'static str, swept: &Swept) -> Told {
+    let Swept { refusal, records, .. } = *swept;
+    Told { name, refusal, records, decision: Decision::default(), position: None }
+}
+
 impl<const B: bool> Replay<B> {
     pub fn new(model: Machine<B>, output: Output) -> Self {
         Replay {
@@ -168,7 +175,8 @@ impl<const B: bool> Replay<B> {
             Output::Totals => self.rows(text),
         }
         if stop {
-            text.push_str("stop\n");
+            let placed = self.model.broken(Fault::PositionOnStop);
+            text.push_str(if placed { "stop -\n" } else { "stop\n" });
         }
     }
 
@@ -201,11 +209,19 @@ impl<const B: bool> Replay<B> {
         match self.output {
             Output::Lines => {
                 self.line(told, text);
+                self.position(told, text);
                 text.push('\n');
             }
             Output::Records => {
+                let last = self.model.broken(Fault::PositionLast);
                 self.line(told, text);
+                if !last {
+                    self.position(told, text);
+                }
                 self.told(self.events, told.refusal, &told.decision, text);
+                if last {
+                    self.position(told, text);
+                }
                 text.push('\n');
                 self.records(usize::from(told.records), text);
                 text.push_str(dropped);
@@ -224,32 +240,48 @@ impl<const B: bool> Replay<B> {
                 let opened = model.opening(summary, &self.registry, timer, clock);
                 *table = opened.table;
                 (self.opened, self.opening) = (true, Some((self.events, opened.refusal)));
-                Told { name: "open", refusal: opened.refusal, records: 0, decision }
+                let refusal = opened.refusal;
+                Told { name: "open", refusal, records: 0, decision, position: None }
             }
             Item::Segment { association, parameter } => {
                 let got = model.segment(*table, summary, store, report, association, parameter);
                 *table = got.table;
-                let Received { decision, refusal, records, .. } = got;
-                Told { name: "segment", refusal, records, decision }
+                let Received { decision, refusal, records, position, .. } = got;
+                Told { name: "segment", refusal, records, decision, position: Some(position) }
             }
             Item::Clock(time) => {
                 let swept = model.clock(*table, summary, report, time);
                 *table = swept.table;
-                Told { name: "clock", refusal: swept.refusal, records: swept.records, decision }
+                swept_told("clock", &swept)
             }
             Item::Release(association) => {
                 let swept = model.release(*table, summary, report, association);
                 *table = swept.table;
-                Told { name: "release", refusal: swept.refusal, records: swept.records, decision }
+                swept_told("release", &swept)
             }
         }
     }
 
-    /// The replay program's line, without its end.
+    /// The replay program's line without the position and the end.
     fn line(&self, told: &Told, text: &mut String) {
         let Told { name, refusal, records, .. } = told;
         let [delivered, lost] = self.octets(usize::from(*records));
         write!(text, "{name} {refusal} {records} {delivered} {lost}").expect("a string takes it");
+    }
+
+    /// The last field of the replay program's line, if it is a segment's.
+    fn position(&self, told: &Told, text: &mut String) {
+        let position = match self.model.fault() {
+            Some(Fault::PositionUntold) => None,
+            Some(Fault::PositionEverywhere) => told.position.or(Some(NOWHERE)),
+            _ => told.position,
+        };
+        let written = match position {
+            None => Ok(()),
+            Some(NOWHERE) if !self.model.broken(Fault::PositionNumber) => write!(text, " -"),
+            Some(position) => write!(text, " {position}"),
+        };
+        written.expect("a string takes it");
     }
 
     /// Octets delivered and octets lost, by the records that this call made.

@@ -104,7 +104,7 @@ line-back Next t store k f octets found p vacant e = refl
 
 -- an answer for C, with a decision for its numbers
 abbrev decided : CReceived → Decision → Received
-decided r d = record { table = r .table; decision = d; refusal = r .refusal; records = r .records }
+decided r d = record { table = r .table; decision = d; position = r .position; refusal = r .refusal; records = r .records }
 
 module _ (t : Table) (m store report : List ℕ) (association : ℕ) (s : List ℕ) where
   -- what the rule makes of a segment

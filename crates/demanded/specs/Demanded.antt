@@ -59,7 +59,7 @@ DemandedSending t q o d whole area r area′ =
 
 -- for C: a segment's answer as it crossed, and the octets of the part that the host takes with it
 abbrev pub ofC : CReceived → List ℕ → List ℕ → List ℕ → Outcome
-ofC r m′ store′ report′ = leaving (record { table = r .table; decision = decisionOf (r .decision); refusal = r .refusal; records = r .records }) m′ store′ report′
+ofC r m′ store′ report′ = leaving (record { table = r .table; decision = decisionOf (r .decision); position = r .position; refusal = r .refusal; records = r .records }) m′ store′ report′
 
 abbrev pub DemandedC : Table → List ℕ → List ℕ → List ℕ → ℕ → List ℕ → Handed → List ℕ → List ℕ → List ℕ → Type 0
 DemandedC t m store report association s r m′ store′ report′ =

@@ -1,17 +1,17 @@
 -- What an accepted call's checks say.
 use Prim.Native.Nat.{ℕ, _+_, _*_, _%_, _≤_, _<_, _^_}
 use mathlib.Core.Path.{_≡_, refl}
-use mathlib.Core.Bool.{Bool, true, false, not, _&&_, and-eq-true-iff, Bool·beq}
+use mathlib.Core.Bool.{Bool, true, false, not, _&&_, and-eq-true-iff}
 use mathlib.Core.List.{List, [], _∷_, _++_}
 use native.Mathlib.Omega.{arith}
 use borrow.Author.Tests.{ltb-false, leb-false, not-true}
-use lib.Dec.{leb, ltb}
+use lib.Dec.{eqb}
 use lib.ListN.{length}
 use Rattle.rules.specs.General.{if_then_else_}
 use Rattle.rules.specs.Numbers.{parameterMost, elapsed}
-use Rattle.rules.specs.Refusals.{Check, _when_, accepted}
+use Rattle.rules.specs.Refusals.{Check, _for_over_, _for_unlike_, _blaming_, accepted}
 use Rattle.rules.specs.Registry.{kindOf}
-use Rattle.rules.specs.Layout.{octet, contextOf, has1a, has3a, isUnsegmented, isNew, remainingOf, at2, at3, originAt, fieldsOf, lastChecks, contextChecks, sequenceChecks, addressesChecks, readingChecks}
+use Rattle.rules.specs.Layout.{octet, contextOf, has1a, has3a, isUnsegmented, isNew, remainingOf, at2, at3, originAt, fieldsOf, count3a, cutBefore, lastChecks, contextChecks, sequenceChecks, addressesChecks, readingChecks}
 use Rattle.rules.specs.Soundness.{sound}
 use Rattle.rules.specs.Receiving.{keyOf}
 use Rattle.rules.specs.Sweep.{reportLeast, clockChecks, releaseChecks}
@@ -23,14 +23,14 @@ use Rattle.rules.proofs.Records.{filled-key}
 use Rattle.demands.proofs.Settling.{KeyFits}
 
 abbrev seven : List ℕ → ℕ → Check
-seven s at = 7 when Bool·beq (has3a (octet s at)) (isUnsegmented (isNew (octet s at)) (remainingOf (octet s at)))
+seven s at = 7 for count3a (has3a (octet s at)) unlike count3a (not (isUnsegmented (isNew (octet s at)) (remainingOf (octet s at)))) blaming at
 
 module _ (registry : List Entry) (s : List ℕ) where
   abbrev kind : ℕ
   kind = kindOf registry (contextOf s)
 
   abbrev four : List Check
-  four = 4 when ltb parameterMost (length s) ∷ []
+  four = 4 for length s over parameterMost ∷ []
 
   abbrev addresses : List Check
   addresses = addressesChecks kind s (originAt s)
@@ -47,9 +47,9 @@ module _ (registry : List Entry) (s : List ℕ) where
             (accepted-both (four ++ contextChecks registry s ++ lastChecks s (at2 s) ++ sequenceChecks s (at3 s)) addresses e .0) .1
 
         seventh : accepted (seven s (at3 s) ∷ []) ≡ true
-        seventh = accepted-both ((5 when leb (length s) (at3 s) ∷ []) ++ (if has3a (octet s (at3 s)) then lastChecks s (at3 s + 1) else [])) (seven s (at3 s) ∷ []) heads .1
+        seventh = accepted-both ((cutBefore s (at3 s + 1) ∷ []) ++ (if has3a (octet s (at3 s)) then lastChecks s (at3 s + 1) else [])) (seven s (at3 s) ∷ []) heads .1
 
-        go : (b : Bool) → not (Bool·beq b (isUnsegmented (isNew (octet s (at3 s))) (remainingOf (octet s (at3 s))))) ≡ true → (if b then octet s (at3 s + 1) % 128 else 255) ≡ 255
+        go : (b : Bool) → not (not (eqb (count3a b) (count3a (not (isUnsegmented (isNew (octet s (at3 s))) (remainingOf (octet s (at3 s)))))))) ≡ true → (if b then octet s (at3 s + 1) % 128 else 255) ≡ 255
         go true q = let z : false ≡ true = simp a at q in absurd (let y : _≡_ {A = ℕ} 0 1 = cc in omega arith)
         go false q = refl
 

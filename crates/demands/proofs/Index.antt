@@ -14,7 +14,7 @@ use Rattle.demands.specs.Timer.{Timer}
 use Rattle.demands.specs.Release.{Release}
 use Rattle.demands.specs.Soundness.{Sound}
 use Rattle.demands.specs.Exactly.{Octets, Exactly}
-use Rattle.demands.specs.Follows.{Orderly, Billed, Unforgetting, OneForm}
+use Rattle.demands.specs.Follows.{Orderly, Billed, Unforgetting, OneForm, Pointing}
 use Rattle.demands.specs.Demanded.{Demanded, Begun}
 use Rattle.demands.specs.Totals.{Totals, Balance}
 use Rattle.demands.specs.Replayed.{Replayed}
@@ -28,6 +28,7 @@ use Rattle.demands.proofs.Timing as Timing
 use Rattle.demands.proofs.Releasing as Releasing
 use Rattle.demands.proofs.Follows as Follows
 use Rattle.demands.proofs.OneForm as Form
+use Rattle.demands.proofs.Pointing as Pointing
 use Rattle.demands.proofs.Totalling as Totalling
 use Rattle.demands.proofs.Balancing as Balancing
 use Rattle.demands.proofs.Demanded as One
@@ -84,6 +85,9 @@ unforgetting = Follows.unforgetting
 
 pub one-form : (m : Machine) → Demand1 m → OneForm m
 one-form = Form.one-form
+
+pub pointing : (m : Machine) → Demand1 m → Pointing m
+pointing = Pointing.pointing
 
 -- all of it of one call, along any history that matches: what the contracts of the crate demanded say of the code
 pub of-call : (st : State) (c : Call) → InRange c → isOpening c ≡ false → Demanded (seenBy ours st c)

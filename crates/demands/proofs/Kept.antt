@@ -4,12 +4,12 @@ use mathlib.Core.Path.{_≡_, refl, sym, ap, subst, _∙_}
 use mathlib.Core.Bool.{Bool, true, false, not, and-eq-true-iff}
 use mathlib.Core.List.{List, [], _∷_, append-nil}
 use native.Mathlib.Omega.{arith}
-use borrow.Author.Tests.{ne-eqb, leb-true}
+use borrow.Author.Tests.{ne-eqb}
 use lib.Dec.{eqb, leb}
 use lib.ListN.{length, getD}
 use Rattle.rules.specs.General.{if_then_else_}
 use Rattle.rules.specs.Numbers.{elapsed}
-use Rattle.rules.specs.Refusals.{accepted, first}
+use Rattle.rules.specs.Refusals.{accepted, first, fault}
 use Rattle.rules.specs.Registry.{entriesOf}
 use Rattle.rules.specs.Layout.{isUnsegmented, fieldsOf, readingChecks}
 use Rattle.rules.specs.Places.{sameKey, isOpen, noPlace, holds, placeOf, placeAt, lowestFree}
@@ -123,7 +123,7 @@ module _ (st : State) (h : Told) (inv : Inv st h) where
   refused-done : (c : Call) → isOpening c ≡ false → accepted (checksOf st c) ≡ false → Accounted h (seenBy ours st c)
   refused-done c o e =
       subst (λ (out : Outcome). Accounted h (seenWith st c out)) (sym (step-refused st c e))
-      (idle-done c (refusedOutcome st c (first (checksOf st c))) (no-deeds c o _ (refused-number st c e)) (refused-hands c (parameterOf c) (refusedState st c .store)) refl (stays c o))
+      (idle-done c (refusedOutcome st c (fault (checksOf st c))) (no-deeds c o _ (refused-number st c e)) (refused-hands c (parameterOf c) (refusedState st c .store)) refl (stays c o))
 
   -- a segment
   module _ (x : Arrival) where

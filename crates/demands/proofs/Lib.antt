@@ -20,6 +20,7 @@ pub mod Timing
 pub mod Releasing
 pub mod Follows
 pub mod OneForm
+pub mod Pointing
 pub mod Demanded
 pub mod Replayed
 pub mod Columns

@@ -6,7 +6,7 @@ use mathlib.Core.List.{List, [], _∷_, _++_}
 use native.Mathlib.Omega.{arith}
 use lib.ListN.{drop}
 use Rattle.rules.specs.General.{if_then_else_}
-use Rattle.rules.specs.Refusals.{Check, accepted, first}
+use Rattle.rules.specs.Refusals.{nowhere, Check, accepted, first, firstAt, fault}
 use Rattle.rules.specs.Layout.{readingChecks}
 use Rattle.rules.specs.Receiving.{segmentChecks}
 use Rattle.rules.specs.Delivery.{delivery}
@@ -15,9 +15,10 @@ use Rattle.rules.specs.Summary.{segmentChecksWith, segmentWith, clockChecksWith
 use Rattle.rules.specs.Opening.{opening}
 use Rattle.rules.specs.Sending.{sendingChecks, sending}
 use Rattle.rules.specs.Calls.{State, Call, Opens, Arrives, Ticks, Releases, Sends, refusedAs, refusing, Outcome, step}
-use Rattle.rules.proofs.Refusals.{Least, least-append, least-less, first-least, accepted-first}
+use Rattle.rules.proofs.Refusals.{Least, least-append, least-less, first-least, accepted-first, accepted-nowhere as none-nowhere}
 use Rattle.rules.proofs.Least.{reading-least}
-use Rattle.demands.specs.Machine.{ours, checksOf, parameterOf}
+use Rattle.rules.specs.declared.Fault.{Fault}
+use Rattle.demands.specs.Machine.{ours, checksOf, parameterOf, isArrival}
 use Rattle.demands.specs.Seen.{handing, seenBy}
 use Rattle.demands.specs.Demand1.{refusedState, Untouched, Demand1}
 
@@ -56,17 +57,38 @@ checks-least st c = go c (least-less 2 1 (drop (ones c) (checksOf st c)) (omega 
     go (Releases x) h = (omega arith, (omega arith, h))
     go (Sends x) h = (omega arith, h)
 
--- a call as it is when refused by a number
-abbrev pub refusedOutcome : State → Call → ℕ → Outcome
-refusedOutcome st c n = record { answer = refusing n c; state = refusedState st c }
+-- only reading blames an octet: in another call no check does
+abbrev Plain : List Check → Type 0
+Plain [] = Unit {0}
+Plain (c ∷ cs) = (c .position ≡ nowhere) × Plain cs
 
-pub step-refused : (st : State) (c : Call) → accepted (checksOf st c) ≡ false → step st c ≡ refusedOutcome st c (first (checksOf st c))
+plain-nowhere : (cs : List Check) → Plain cs → firstAt cs ≡ nowhere
+plain-nowhere [] h = refl
+plain-nowhere (c ∷ cs) h = go (c .applies) (plain-nowhere cs (h .1))
+  where
+    go : (b : Bool) → firstAt cs ≡ nowhere → (if b then c .position else firstAt cs) ≡ nowhere
+    go true later = h .0
+    go false later = later
+
+pub only-reading : (st : State) (c : Call) → isArrival c ≡ false → firstAt (checksOf st c) ≡ nowhere
+unfolding clockChecksWith clockChecks releaseChecksWith releaseChecks sendingChecks
+only-reading st (Opens x) a = plain-nowhere (checksOf st (Opens x)) (refl, (refl, tt))
+only-reading st (Arrives x) a = cc
+only-reading st (Ticks x) a = plain-nowhere (checksOf st (Ticks x)) (refl, (refl, (refl, (refl, (refl, tt)))))
+only-reading st (Releases x) a = plain-nowhere (checksOf st (Releases x)) (refl, (refl, (refl, (refl, tt))))
+only-reading st (Sends x) a = plain-nowhere (checksOf st (Sends x)) (refl, (refl, (refl, (refl, (refl, (refl, (refl, (refl, (refl, (refl, tt))))))))))
+
+-- a call as it is when refused
+abbrev pub refusedOutcome : State → Call → Fault → Outcome
+refusedOutcome st c x = record { answer = refusing x c; state = refusedState st c }
+
+pub step-refused : (st : State) (c : Call) → accepted (checksOf st c) ≡ false → step st c ≡ refusedOutcome st c (fault (checksOf st c))
 unfolding step opening segmentWith clockWith clockChecksWith releaseWith releaseChecksWith sending
-step-refused st (Opens x) h = rw h
+step-refused st (Opens x) h = rw (h, only-reading st (Opens x) refl)
 step-refused st (Arrives x) h = rw h
-step-refused st (Ticks x) h = rw h
-step-refused st (Releases x) h = rw h
-step-refused st (Sends x) h = rw h
+step-refused st (Ticks x) h = rw (h, only-reading st (Ticks x) refl)
+step-refused st (Releases x) h = rw (h, only-reading st (Releases x) refl)
+step-refused st (Sends x) h = rw (h, only-reading st (Sends x) refl)
 
 pub accepted-zero : (st : State) (c : Call) → accepted (checksOf st c) ≡ true → step st c .answer .refusal ≡ 0
 unfolding step opening segmentWith clockWith clockChecksWith releaseWith releaseChecksWith sweep sending
@@ -76,11 +98,26 @@ accepted-zero st (Ticks x) h = rw h
 accepted-zero st (Releases x) h = rw h
 accepted-zero st (Sends x) h = rw h
 
+pub accepted-nowhere : (st : State) (c : Call) → accepted (checksOf st c) ≡ true → step st c .answer .position ≡ nowhere
+unfolding step opening segmentWith clockWith clockChecksWith releaseWith releaseChecksWith sweep sending
+accepted-nowhere st (Opens x) h = refl
+accepted-nowhere st (Arrives x) h = rw h
+accepted-nowhere st (Ticks x) h = refl
+accepted-nowhere st (Releases x) h = refl
+accepted-nowhere st (Sends x) h = refl
+
 pub number : (st : State) (c : Call) → step st c .answer .refusal ≡ first (checksOf st c)
 number st c = go (accepted (checksOf st c)) refl
   where
     go : (b : Bool) → accepted (checksOf st c) ≡ b → step st c .answer .refusal ≡ first (checksOf st c)
     go true h = accepted-zero st c h ∙ sym (accepted-first (checksOf st c) h)
+    go false h = rw (step-refused st c h)
+
+pub position : (st : State) (c : Call) → step st c .answer .position ≡ firstAt (checksOf st c)
+position st c = go (accepted (checksOf st c)) refl
+  where
+    go : (b : Bool) → accepted (checksOf st c) ≡ b → step st c .answer .position ≡ firstAt (checksOf st c)
+    go true h = accepted-nowhere st c h ∙ sym (none-nowhere (checksOf st c) h)
     go false h = rw (step-refused st c h)
 
 -- a refused call's number is not 0
@@ -113,6 +150,7 @@ demand-1 =
       every = λ st c.
           record {
             number = number st c;
+            position = position st c;
             refused = λ h e. let z : true ≡ false = sym (zero-accepted st c e) ∙ h in let y : _≡_ {A = ℕ} 0 1 = cc in omega arith;
             untouched = untouched st c;
           };

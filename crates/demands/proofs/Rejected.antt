@@ -23,7 +23,7 @@ use Rattle.rules.specs.Opening.{noEntry, opening}
 use Rattle.rules.specs.Sending.{segmentOctets, sendingChecks, sending}
 use Rattle.rules.specs.Examples.{fresh}
 use Rattle.rules.specs.Calls.{State, stateOf, Opening, Call, Opens, Arrives, Ticks, Releases, Sends, toArrive, toTick, toRelease, Decided, Undecided, As, Answer, refusing, Outcome, step}
-use Rattle.rules.proofs.Refusals.{judged-by}
+use Rattle.rules.proofs.Refusals.{fault-by}
 use Rattle.rules.specs.declared.Entry.{Entry}
 use Rattle.rules.specs.declared.Address.{Address}
 use Rattle.rules.specs.declared.Key.{Key}
@@ -42,8 +42,8 @@ use Rattle.demands.specs.Release.{Release}
 use Rattle.demands.specs.Totals.{totalsOf, Totals}
 use Rattle.demands.specs.Exactly.{Exactly, Bits, OfAddress, OfPlace, OfEntry, OfState, OfCall}
 use Rattle.demands.specs.Wrong
-use Rattle.demands.specs.Wrong.{joining, unchanged, checking, allMade, sweeping, emptying, asRuled, asSummed}
-use Rattle.demands.specs.Wrong.{refuses, losesAll, forgets, savesFirst, invents, inventsOctets, neverRefuses, takesPadded, swallows, handsOutEarly, handsOutMore}
+use Rattle.demands.specs.Wrong.{joining, unchanged, checking, allMade, blaming, asBlamed, sweeping, emptying, asRuled, asSummed}
+use Rattle.demands.specs.Wrong.{refuses, losesAll, forgets, savesFirst, invents, inventsOctets, neverRefuses, takesPadded, blamesNext, blamesAlways, swallows, handsOutEarly, handsOutMore}
 use Rattle.demands.specs.Wrong.{losesNothing, releasesNothing, recordsSending, clearsRegistry, movesTimer, movesClock}
 use Rattle.demands.specs.Wrong.{leavesOut, setsSpare, cutsPast, cutsByClock, writesNonsense}
 use Rattle.demands.specs.Wrong.{comparesNumbers, comparesFilled, comparesNumbersTo, comparesFilledTo, passesOver, recordsOriginTwice, takesHighest, losesEmpty, joinsOverGap, exchangesCauses, callsItDelivered}
@@ -75,16 +75,23 @@ unfolding step segmentWith
 checking-ours st (Opens x) = refl
 checking-ours st (Arrives x) =
     rw (all-made (checksOf st (Arrives x)))
-    (judged-by (λ (o : Outcome). o ≡ step st (Arrives x)) (checksOf st (Arrives x)) (λ n. record { answer = refusing n (Arrives x); state = st }) _ (λ e. simp e) (λ e. simp e))
+    (fault-by (λ (o : Outcome). o ≡ step st (Arrives x)) (checksOf st (Arrives x)) (λ y. record { answer = refusing y (Arrives x); state = st }) _ (λ e. simp e) (λ e. simp e))
 checking-ours st (Ticks x) = refl
 checking-ours st (Releases x) = refl
 checking-ours st (Sends x) = refl
+
+pub blaming-ours : (st : State) (c : Call) → blaming asBlamed .step st c ≡ step st c
+blaming-ours st (Opens x) = refl
+blaming-ours st (Arrives x) = refl
+blaming-ours st (Ticks x) = refl
+blaming-ours st (Releases x) = refl
+blaming-ours st (Sends x) = refl
 
 pub sweeping-ours : (st : State) (c : Call) → sweeping isDue .step st c ≡ step st c
 unfolding step clockWith clockChecksWith
 sweeping-ours st (Opens x) = as-ours st (Opens x) (λ e. refl)
 sweeping-ours st (Arrives x) = as-ours st (Arrives x) (λ e. refl)
-sweeping-ours st (Ticks x) = as-ours st (Ticks x) (λ e. simp e)
+sweeping-ours st (Ticks x) = as-ours st (Ticks x) (λ e. rw e)
 sweeping-ours st (Releases x) = as-ours st (Releases x) (λ e. refl)
 sweeping-ours st (Sends x) = as-ours st (Sends x) (λ e. refl)
 
@@ -382,6 +389,16 @@ rejects-neverRefuses d = let z : _≡_ {A = ℕ} 0 5 = d .every before (toArrive
 pub rejects-takesPadded : Demand1 takesPadded → ⊥
 unfolding computing
 rejects-takesPadded d = let z : _≡_ {A = ℕ} 0 23 = d .every before (toArrive 9 padded one) .number in omega arith
+
+-- octet 2 of M9 has extension 0: position 1, and not 2
+pub rejects-blamesNext : Demand1 blamesNext → ⊥
+unfolding computing
+rejects-blamesNext d = let z : _≡_ {A = ℕ} 2 1 = d .every before (toArrive 9 (0x83 ∷ 0x00 ∷ []) one) .position in omega arith
+
+-- an unsegmented parameter is taken, and no octet of it is at fault
+pub rejects-blamesAlways : Demand1 blamesAlways → ⊥
+unfolding computing
+rejects-blamesAlways d = let z : _≡_ {A = ℕ} 0 65535 = d .every before (toArrive 9 alone one) .position in omega arith
 
 -- an unsegmented parameter is neither covered nor held
 pub rejects-swallows : Demand3 swallows → ⊥

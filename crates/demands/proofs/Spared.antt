@@ -2,7 +2,7 @@
 use Prim.Native.Nat.{ℕ, zero, suc, _+_, _≤_, _<_}
 use mathlib.Core.Path.{_≡_, refl, sym, ap, _∙_, subst}
 use mathlib.Core.Bool.{Bool, true, false, not, _&&_, and-eq-true-iff}
-use mathlib.Core.List.{List, [], _∷_, _++_, map}
+use mathlib.Core.List.{List, [], _∷_, map}
 use native.Mathlib.Omega.{arith}
 use borrow.Author.Tests.{ltb-true, ltb-false, eqb-true, eqb-false}
 use lib.Dec.{eqb, ltb}
@@ -10,8 +10,8 @@ use lib.ListN.{length, length-map, List·getD-map, getD, set, take, drop, length
 use lib.Seq.{getD-set-same, getD-set-other}
 use Rattle.octets.proofs.Splice.{splice-length, splice-below, splice-above}
 use Rattle.rules.specs.General.{if_then_else_, those}
-use Rattle.rules.specs.Numbers.{dataMost, storeLeast, placeStart}
-use Rattle.rules.specs.Refusals.{Check, accepted, first}
+use Rattle.rules.specs.Numbers.{dataMost, placeStart}
+use Rattle.rules.specs.Refusals.{Check, accepted, fault}
 use Rattle.rules.specs.Layout.{isUnsegmented, fieldsOf, readingChecks}
 use Rattle.rules.specs.Places.{noPlace, freePlace, isOpen, isFree, holds, firstFrom, placeOf, lowestFree, numberOf, putPlace, placeAt, isAt}
 use Rattle.rules.specs.Sweep.{lossOf, freedBy}
@@ -181,7 +181,7 @@ module _ (t : Table) (m store report : List ℕ) (association : ℕ) (s : List �
   unfolding segmentWith
   segment-is e = rw e
 
-  pub segment-refused : accepted checks ≡ false → segmentWith t m store report association s .call ≡ unreceived t store report (first checks)
+  pub segment-refused : accepted checks ≡ false → segmentWith t m store report association s .call ≡ unreceived t store report (fault checks)
   unfolding segmentWith
   segment-refused e = rw e
 

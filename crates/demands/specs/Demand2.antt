@@ -8,7 +8,7 @@ use lib.ListN.{length, take}
 use Rattle.rules.specs.General.{if_then_else_}
 use Rattle.octets.specs.Splice.{splice}
 use Rattle.rules.specs.Numbers.{storeLeast}
-use Rattle.rules.specs.Refusals.{accepted}
+use Rattle.rules.specs.Refusals.{nowhere, accepted}
 use Rattle.rules.specs.Registry.{kindOf}
 use Rattle.rules.specs.Layout.{fieldsOf}
 use Rattle.rules.specs.Records.{delivered, recordLength, addressOf, recordOctets}
@@ -73,6 +73,7 @@ abbrev pub sentBy : Shipment → Sender → ℕ → Answer
 sentBy x a k =
     record {
       refusal = 0;
+      position = nowhere;
       records = 0;
       decided = Undecided;
       count = countIn x;

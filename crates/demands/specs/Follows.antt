@@ -1,19 +1,24 @@
 -- WHAT FOLLOWS. Of any machine that meets demand 3: what is delivered came in order, an unsegmented parameter's record covers it alone, and the octets of its Delivered records, which
--- are what is billed, are as many as were handed over. Of any machine that meets demand 1: a context has one form only in what it accepts. Of any machine: since the last opening nothing that was accepted is forgotten by the history, or covered twice.
-use Prim.Native.Nat.{ℕ, _+_, _<_}
+-- are what is billed, are as many as were handed over. Of any machine that meets demand 1: a context has one form only in what it accepts, and a position says which octet of a refused parameter to look at. Of any machine: since the last opening nothing that was accepted is forgotten by the history, or covered twice.
+use Prim.Native.Nat.{ℕ, _+_, _≤_, _<_}
 use mathlib.Core.Path.{_≡_}
-use mathlib.Core.Bool.{true, false}
+use mathlib.Core.Bool.{Bool, true, false, _||_}
 use mathlib.Core.List.{List, [], _∷_, _++_}
-use lib.ListN.{length}
+use lib.Dec.{eqb}
+use lib.ListN.{length, take}
 use Rattle.rules.specs.General.{if_then_else_}
+use Rattle.rules.specs.Numbers.{parameterMost}
+use Rattle.rules.specs.Refusals.{nowhere}
 use Rattle.rules.specs.Layout.{contextOf, contextPart, contextOctets}
+use Rattle.rules.specs.Blame.{Blamed, isSettled}
 use Rattle.rules.specs.Records.{delivered}
 use Rattle.rules.specs.Places.{sameKey}
 use Rattle.rules.specs.Lines.{octetsOf}
-use Rattle.rules.specs.Calls.{State, Arrives, Arrival}
+use Rattle.rules.specs.Calls.{State, Call, Arrives, Arrival, Answer}
 use Rattle.rules.specs.declared.Key.{Key}
-use Rattle.demands.specs.Machine.{Machine, All}
+use Rattle.demands.specs.Machine.{Machine, isArrival, All}
 use Rattle.demands.specs.Seen.{Seen}
+use Rattle.demands.specs.Demand1.{faultIn}
 use Rattle.demands.specs.Exactly.{Octets}
 use Rattle.demands.specs.History.{Segment, Taken, Cover, Told, recordsIn, after, covers, Meets}
 
@@ -65,3 +70,16 @@ pub record OneForm (m : Machine) : Type 0 where
   pub equal : (st st′ : State) (x x′ : Arrival) → Octets (x .parameter) → Octets (x′ .parameter)
       → m .step st (Arrives x) .answer .refusal ≡ 0 → m .step st′ (Arrives x′) .answer .refusal ≡ 0
       → contextOf (x .parameter) ≡ contextOf (x′ .parameter) → contextPart (x .parameter) ≡ contextPart (x′ .parameter)
+
+-- document 02, A5: a segment's position names the octet at fault, by its number, and no other call has one. What is refused for such an octet alone is refused alike whatever
+-- stands behind it, at any state with that registry, unless the state or a lent area is refused first
+abbrev pub isBefore : ℕ → Bool
+isBefore n = eqb n 1 || eqb n 2 || eqb n 3
+
+pub record Pointing (m : Machine) : Type 0 where
+  pub blamed : (st : State) (x : Arrival) → Blamed (x .parameter) (faultIn (m .step st (Arrives x) .answer))
+  pub others : (st : State) (c : Call) → isArrival c ≡ false → m .step st c .answer .position ≡ nowhere
+  pub alike : (st st′ : State) (x x′ : Arrival) → st′ .table .registry ≡ st .table .registry → length (x′ .parameter) ≤ parameterMost
+      → let a : Answer = m .step st (Arrives x) .answer in
+      let a′ : Answer = m .step st′ (Arrives x′) .answer in
+      isSettled (a .refusal) ≡ true → take (a .position + 1) (x .parameter) ≡ take (a .position + 1) (x′ .parameter) → isBefore (a′ .refusal) ≡ false → faultIn a′ ≡ faultIn a

@@ -60,6 +60,13 @@ isOpening (Ticks x) = false
 isOpening (Releases x) = false
 isOpening (Sends x) = false
 
+abbrev pub isArrival : Call → Bool
+isArrival (Opens x) = false
+isArrival (Arrives x) = true
+isArrival (Ticks x) = false
+isArrival (Releases x) = false
+isArrival (Sends x) = false
+
 -- a statement of every element of a list
 abbrev pub All : {A : Type 0} → (A → Type 0) → List A → Type 0
 All P [] = Unit {0}

@@ -7,8 +7,8 @@ use lib.ListN.{length, take, drop, getD, set, replicate}
 use Rattle.octets.specs.Number.{number}
 use Rattle.octets.specs.Splice.{splice}
 use Rattle.rules.specs.General.{if_then_else_, every, those}
-use Rattle.rules.specs.Numbers.{addressMost, stretchLength, placeStart, parameterMost}
-use Rattle.rules.specs.Refusals.{Check, accepted, judged}
+use Rattle.rules.specs.Numbers.{stretchLength, placeStart, parameterMost}
+use Rattle.rules.specs.Refusals.{nowhere, Check, accepted, unplaced, judgedAt}
 use Rattle.rules.specs.Registry.{kindOf}
 use Rattle.rules.specs.Records.{delivered, lost, addressOf, recordOctets, recordsOctets}
 use Rattle.rules.specs.Layout.{isUnsegmented, fieldsOf, contextOctets, parameterOctets}
@@ -81,14 +81,14 @@ onSending f st (Sends x) = f st x
 
 -- a receiver that refuses everything
 abbrev pub refuses : Machine
-refuses = stepping (onSegment (λ st x. outcome (refusing 1 (Arrives x)) st))
+refuses = stepping (onSegment (λ st x. outcome (refusing (unplaced 1) (Arrives x)) st))
 
 -- every segment is lost with cause 1, and the state stays
 abbrev pub losesAll : Machine
 losesAll = whereAccepted (onSegment (λ st x.
     let f : Fields = fieldsOf (st .table .registry) (x .parameter) in
     let r : Record = recordWith lost 1 (keyOf (x .association) (x .parameter) f) (f .heading .instruction) 1 (length (informationOf (x .parameter) f)) in
-    outcome (answering 0 1 (As (Lost 1 Nothing)) (lending (splice (x .report) 0 (recordOctets r)) [])) st))
+    outcome (answering (unplaced 0) 1 (As (Lost 1 Nothing)) (lending (splice (x .report) 0 (recordOctets r)) [])) st))
 
 -- the right answers, and table and store stay as before the segment
 abbrev pub forgets : Machine
@@ -103,7 +103,7 @@ savesFirst = stepping (onSegment (λ st x.
 
 -- an answer with these records at the front of its report
 abbrev reporting : Answer → List Record → Answer
-reporting a rs = answering (a .refusal) (length rs) (a .decided) (lending (splice (a .lent .report) 0 (recordsOctets rs)) (a .lent .area))
+reporting a rs = answering (unplaced (a .refusal)) (length rs) (a .decided) (lending (splice (a .lent .report) 0 (recordsOctets rs)) (a .lent .area))
 
 -- the records of every receiving call are others
 abbrev recording : (Record → Record) → Machine
@@ -124,13 +124,13 @@ callsItDelivered = recording (λ r. if eqb (r .octets) 0 then recordWith deliver
 
 -- it never refuses: what ours refuses it takes in silence
 abbrev pub neverRefuses : Machine
-neverRefuses = stepping (λ st c. if accepted (checksOf st c) then step st c else outcome (refusing 0 c) st)
+neverRefuses = stepping (λ st c. if accepted (checksOf st c) then step st c else outcome (refusing (unplaced 0) c) st)
 
 -- it swallows an unsegmented parameter: accepted, and no record
 abbrev pub swallows : Machine
 swallows = whereAccepted (onSegment (λ st x.
     let f : Fields = fieldsOf (st .table .registry) (x .parameter) in
-    if isUnsegmented (f .heading .new) (f .heading .remaining .0) then outcome (refusing 0 (Arrives x)) st else step st (Arrives x)))
+    if isUnsegmented (f .heading .new) (f .heading .remaining .0) then outcome (refusing (unplaced 0) (Arrives x)) st else step st (Arrives x)))
 
 -- on a save it hands out the place's stretch of the store
 abbrev tooSoon : Decision → List ℕ → List ℕ → List ℕ
@@ -167,13 +167,13 @@ losesNothing = whereAccepted (onRelease (λ st x.
 
 -- a release ends nothing: accepted, and no record
 abbrev pub releasesNothing : Machine
-releasesNothing = whereAccepted (onRelease (λ st x. outcome (refusing 0 (Releases x)) st))
+releasesNothing = whereAccepted (onRelease (λ st x. outcome (refusing (unplaced 0) (Releases x)) st))
 
 -- a sending makes a record too
 abbrev pub recordsSending : Machine
 recordsSending = stepping (onSending (λ st x.
     let a : Answer = step st (Sends x) .answer in
-    outcome (record { refusal = a .refusal; records = 1; decided = a .decided; count = a .count; length = a .length; lent = a .lent }) st))
+    outcome (record { refusal = a .refusal; position = a .position; records = 1; decided = a .decided; count = a .count; length = a .length; lent = a .lent }) st))
 
 -- THE RELEASE, as the rules have it but for the table that it leaves with nothing open
 abbrev pub emptying : (Table → Table) → Machine
@@ -410,7 +410,7 @@ startsAnew = changing (λ line t f place p e.
 -- THE CHECKS OF A SEGMENT, as the rules have them but for those that are not made
 abbrev pub checking : (Check → Bool) → Machine
 checking isMade = stepping (onSegment (λ st x.
-    judged (those isMade (checksOf st (Arrives x))) (λ n. outcome (refusing n (Arrives x)) st) (joined placeOf lowestFree lineOf unchanged st x)))
+    judgedAt (those isMade (checksOf st (Arrives x))) (λ e. outcome (refusing e (Arrives x)) st) (joined placeOf lowestFree lineOf unchanged st x)))
 
 abbrev pub allMade : Check → Bool
 allMade c = true
@@ -418,6 +418,25 @@ allMade c = true
 -- a padded context is taken, as it was before document 02's A2
 abbrev pub takesPadded : Machine
 takesPadded = checking (λ c. not (eqb (c .number) 23))
+
+-- THE POSITIONS that a segment's answer names, as the rules have them but for a change, by the number
+abbrev pub blaming : (ℕ → ℕ → ℕ) → Machine
+blaming change = stepping (onSegment (λ st x.
+    let o : Outcome = step st (Arrives x) in
+    let a : Answer = o .answer in
+    outcome
+    (record { refusal = a .refusal; position = change (a .refusal) (a .position); records = a .records; decided = a .decided; count = a .count; length = a .length; lent = a .lent })
+    (o .state)))
+
+abbrev pub asBlamed : ℕ → ℕ → ℕ
+asBlamed n at = at
+
+-- the octet behind the one at fault; octet 1 where none is at fault
+abbrev pub blamesNext : Machine
+blamesNext = blaming (λ n at. if eqb at nowhere then nowhere else at + 1)
+
+abbrev pub blamesAlways : Machine
+blamesAlways = blaming (λ n at. if eqb at nowhere then 0 else at)
 
 -- THE CLOCK'S CALLS, as the rules have them but for the test of what is due
 abbrev pub sweeping : (ℕ → ℕ → Place → Bool) → Machine

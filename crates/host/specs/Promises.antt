@@ -13,7 +13,7 @@ use Rattle.host_numbers.specs.declared.CPart.{CPart}
 
 -- an answer as it crosses
 abbrev pub crossing : Received → CReceived
-crossing r = record { table = r .table; decision = cDecisionOf (r .decision); refusal = r .refusal; records = r .records }
+crossing r = record { table = r .table; decision = cDecisionOf (r .decision); refusal = r .refusal; records = r .records; position = r .position }
 
 pub record HostSegment (t : Table) (m store report : List ℕ) (association : ℕ) (s : List ℕ) (answer : CReceived) (m′ store′ report′ : List ℕ) : Type 0 where
   pub answered : answer ≡ crossing (segmentWith t m store report association s .call .answer)

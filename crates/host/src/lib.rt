@@ -16,6 +16,7 @@ pub struct CReceived {
     pub decision: CDecision,
     pub refusal: u8,
     pub records: u8,
+    pub position: u16,
 }
 
 // Opens a table from registry octets, T and the clock, and empties the summary.
@@ -51,6 +52,7 @@ pub extern "C" fn egrynnol_3_segment(
         decision: host_numbers::c_decision_of(decision),
         refusal: r.refusal,
         records: r.records,
+        position: r.position,
     }
 }
 

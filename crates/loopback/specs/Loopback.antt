@@ -3,10 +3,10 @@ use Prim.Native.Nat.{ℕ, _+_}
 use mathlib.Core.Path.{_≡_}
 use mathlib.Core.Bool.{Bool, true, not}
 use mathlib.Core.List.{List, [], _∷_, _++_}
-use lib.Dec.{leb, ltb}
+use lib.Dec.{leb}
 use lib.ListN.{length, take, getD}
 use Rattle.rules.specs.Numbers.{storeLeast, parameterMost}
-use Rattle.rules.specs.Refusals.{Check, _when_, accepted, judged}
+use Rattle.rules.specs.Refusals.{Check, _when_, _for_under_, accepted, judged}
 use Rattle.rules.specs.Records.{recordLength}
 use Rattle.rules.specs.Registry.{kindOf}
 use Rattle.rules.specs.Places.{lowestFree, isAt}
@@ -48,9 +48,9 @@ abbrev pub fitChecks : Table → List ℕ → ℕ → ℕ → ℕ → ℕ → Li
 fitChecks t m association store report area =
     1 when not (summarySound m (t .places)) ∷
     1 when not (sound t) ∷
-    2 when ltb store storeLeast ∷
-    3 when ltb report recordLength ∷
-    20 when ltb area parameterMost ∷
+    2 for store under storeLeast ∷
+    3 for report under recordLength ∷
+    20 for area under parameterMost ∷
     10 when not (isAt (lowestFree (t .places))) ∷ countChecks m association
 
 unfoldable pub loopChecks : Asked → List ℕ → List ℕ → Lent → List Check

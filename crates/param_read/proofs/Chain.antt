@@ -6,10 +6,10 @@ use mathlib.Core.List.{List, [], _∷_, _++_}
 use lib.Dec.{eqb, ltb}
 use lib.ListN.{length}
 use Rattle.rules.specs.Numbers.{parameterMost}
-use Rattle.rules.specs.Refusals.{Check, _when_, judged}
+use Rattle.rules.specs.Refusals.{Check, _for_over_, judgedAt}
 use Rattle.rules.specs.Registry.{kindOf}
 use Rattle.rules.specs.Layout.{octet, isNew, remainingOf, pastAddress, at2, at3, originAt, contextOf, referenceOf, spanAt, headingOf, fieldsOf, lastChecks, contextChecks, sequenceChecks, addressChecks, addressesChecks, readingChecks}
-use Rattle.rules.proofs.Refusals.{judged-append, judged-then}
+use Rattle.rules.proofs.Refusals.{fault-append, fault-then}
 use Rattle.rules.specs.declared.Context.{Context}
 use Rattle.rules.specs.declared.Entry.{Entry}
 use Rattle.rules.specs.declared.Span.{Span}
@@ -47,23 +47,23 @@ unfolding addressesField addressField
 addresses-both s kind at e =
     let past : ℕ = pastAddress s at in
     simp e
-    (judged-append (addressChecks s at) (addressChecks s past) NoAddresses _
+    (fault-append (addressChecks s at) (addressChecks s past) NoAddresses _
     ∙ sym
-    (judged-then (afterOrigin s) (addressChecks s at) NoAddress (AddressIs (spanAt true s at) past)
-    ∙ ap (λ (r : AddressesField). judged (addressChecks s at) NoAddresses r)
-    (judged-then (afterDestination (spanAt true s at)) (addressChecks s past) NoAddress (AddressIs (spanAt true s past) (pastAddress s past)))))
+    (fault-then (afterOrigin s) (addressChecks s at) NoAddress (AddressIs (spanAt true s at) past)
+    ∙ ap (λ (r : AddressesField). judgedAt (addressChecks s at) NoAddresses r)
+    (fault-then (afterDestination (spanAt true s at)) (addressChecks s past) NoAddress (AddressIs (spanAt true s past) (pastAddress s past)))))
 
 -- a whole parameter
 abbrev pub afterSequence : List ℕ → Context → ℕ → ℕ → SequenceField → Reading
-afterSequence s x kind i (NoSequence n) = Refused n
+afterSequence s x kind i (NoSequence e) = Refused e
 afterSequence s x kind i (SequenceIs q at) = afterAddresses (headingFrom x kind i q) (addressesField s kind at)
 
 abbrev pub afterInstruction : List ℕ → Context → ℕ → LastField → Reading
-afterInstruction s x kind (NotLast n) = Refused n
+afterInstruction s x kind (NotLast e) = Refused e
 afterInstruction s x kind (LastIs y at) = afterSequence s x kind (y % 4) (sequenceField s at)
 
 abbrev pub afterContext : List ℕ → ContextField → Reading
-afterContext s (NoContext n) = Refused n
+afterContext s (NoContext e) = Refused e
 afterContext s (ContextIs x kind at) = afterInstruction s x kind (lastField s at)
 
 pub reading-is : (registry : List Entry) (s : List ℕ) → ltb parameterMost (length s) ≡ false → reading registry s ≡ afterContext s (contextField registry s)
@@ -72,22 +72,22 @@ reading-is registry s e =
     let x : Context = record { 0 = contextOf s } in
     let kind : ℕ = kindOf registry (contextOf s) in
     let q : Sequence = record { new = isNew (octet s (at3 s)); remaining = record { 0 = remainingOf (octet s (at3 s)) }; reference = record { 0 = referenceOf s (at3 s) } } in
-    let four : List Check = 4 when ltb parameterMost (length s) ∷ [] in
+    let four : List Check = 4 for length s over parameterMost ∷ [] in
     let cs : List Check = contextChecks registry s in
     let ls : List Check = lastChecks s (at2 s) in
     let qs : List Check = sequenceChecks s (at3 s) in
     let rs : List Check = addressesChecks kind s (originAt s) in
     let v : Reading = Read (fieldsOf registry s) in
-    judged-append (four ++ cs ++ ls ++ qs) rs Refused v
-    ∙ judged-append (four ++ cs ++ ls) qs Refused _
-    ∙ judged-append (four ++ cs) ls Refused _
-    ∙ judged-append four cs Refused _
+    fault-append (four ++ cs ++ ls ++ qs) rs Refused v
+    ∙ fault-append (four ++ cs ++ ls) qs Refused _
+    ∙ fault-append (four ++ cs) ls Refused _
+    ∙ fault-append four cs Refused _
     ∙ simp e
     (sym
-    (judged-then (afterContext s) cs NoContext (ContextIs x kind (at2 s))
-    ∙ ap (λ (r : Reading). judged cs Refused r)
-    (judged-then (afterInstruction s x kind) ls NotLast (LastIs (octet s (at2 s)) (at2 s + 1))
-    ∙ ap (λ (r : Reading). judged ls Refused r)
-    (judged-then (afterSequence s x kind (octet s (at2 s) % 4)) qs NoSequence (SequenceIs q (originAt s))
-    ∙ ap (λ (r : Reading). judged qs Refused r)
-    (judged-then (afterAddresses (headingOf registry s)) rs NoAddresses _)))))
+    (fault-then (afterContext s) cs NoContext (ContextIs x kind (at2 s))
+    ∙ ap (λ (r : Reading). judgedAt cs Refused r)
+    (fault-then (afterInstruction s x kind) ls NotLast (LastIs (octet s (at2 s)) (at2 s + 1))
+    ∙ ap (λ (r : Reading). judgedAt ls Refused r)
+    (fault-then (afterSequence s x kind (octet s (at2 s) % 4)) qs NoSequence (SequenceIs q (originAt s))
+    ∙ ap (λ (r : Reading). judgedAt qs Refused r)
+    (fault-then (afterAddresses (headingOf registry s)) rs NoAddresses _)))))

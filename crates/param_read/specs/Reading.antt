@@ -1,7 +1,7 @@
--- What reading the addresses answers, and a whole parameter: the fields, or the number of the first check that applies. The checks and the fields are the rules'.
+-- What reading the addresses answers, and a whole parameter: the fields, or the fault of the first check that applies. The checks and the fields are the rules'.
 use Prim.Native.Nat.{ℕ}
 use mathlib.Core.List.{List}
-use Rattle.rules.specs.Refusals.{judged}
+use Rattle.rules.specs.Refusals.{judgedAt}
 use Rattle.rules.specs.Layout.{hasAddresses, pastAddress, spanAt, informationAt, fieldsOf, addressesChecks, readingChecks}
 use Rattle.rules.specs.declared.Context.{Context}
 use Rattle.rules.specs.declared.Entry.{Entry}
@@ -14,7 +14,7 @@ use Rattle.param_read.specs.declared.Reading.the-variants.{Read, Refused
 
 unfoldable pub addressesField : List ℕ → ℕ → ℕ → AddressesField
 addressesField s kind at =
-    judged (addressesChecks kind s at) NoAddresses
+    judgedAt (addressesChecks kind s at) NoAddresses
     (AddressesAre
     (record {
       origin = spanAt (hasAddresses kind) s at;
@@ -24,7 +24,7 @@ addressesField s kind at =
 
 -- a whole parameter
 unfoldable pub reading : List Entry → List ℕ → Reading
-reading registry s = judged (readingChecks registry s) Refused (Read (fieldsOf registry s))
+reading registry s = judgedAt (readingChecks registry s) Refused (Read (fieldsOf registry s))
 
 -- how the fields make up a parameter
 abbrev pub headingFrom : Context → ℕ → ℕ → Sequence → Heading
@@ -39,6 +39,6 @@ headingFrom context kind instruction q =
     }
 
 unfoldable pub afterAddresses : Heading → AddressesField → Reading
-afterAddresses g (NoAddresses n) = Refused n
+afterAddresses g (NoAddresses e) = Refused e
 afterAddresses g (AddressesAre a) =
     Read (record { heading = g; origin = a .origin; destination = a .destination; information = a .information })

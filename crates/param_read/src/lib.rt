@@ -6,11 +6,14 @@ use param_fields::Sequence;
 use param_fields::SequenceField;
 use rules::Context;
 use rules::Entry;
+use rules::Fault;
 use rules::Fields;
 use rules::Heading;
 use rules::Span;
 ghost use mathlib.Core.Path.{_≡_};
-ghost use lib.ListN.{drop};
+ghost use Prim.Native.Nat.{_≤_};
+ghost use lib.ListN.{length, drop};
+ghost use Rattle.rules.specs.Numbers.{parameterMost};
 ghost use Rattle.param_read.specs.Reading.{addressesField, headingFrom, afterAddresses, reading};
 
 pub struct Addresses {
@@ -21,17 +24,18 @@ pub struct Addresses {
 
 pub enum AddressesField {
     AddressesAre(Addresses),
-    NoAddresses(u8),
+    NoAddresses(Fault),
 }
 
-// A whole parameter's fields, or the number of its refusal.
+// A whole parameter's fields, or its refusal: the number, and the octet at fault.
 pub enum Reading {
     Read(Fields),
-    Refused(u8),
+    Refused(Fault),
 }
 
 // Both addresses, where the kind has them, and where the information starts.
 fn addresses_field(s: &[u8], kind: u8, at: usize) -> AddressesField
+    requires { ⌜ length (now s) ≤ parameterMost ⌝ }
     ensures { λ r. ⌜ r ≡ addressesField (now (s .entry)) kind at ⌝ }
 {
     if kind != 2 {
@@ -42,9 +46,9 @@ fn addresses_field(s: &[u8], kind: u8, at: usize) -> AddressesField
         });
     }
     match param_fields::address_field(s, at) {
-        AddressField::NoAddress(n) => AddressesField::NoAddresses(n),
+        AddressField::NoAddress(e) => AddressesField::NoAddresses(e),
         AddressField::AddressIs(origin, end) => match param_fields::address_field(s, end) {
-            AddressField::NoAddress(n) => AddressesField::NoAddresses(n),
+            AddressField::NoAddress(e) => AddressesField::NoAddresses(e),
             AddressField::AddressIs(destination, information) => {
                 AddressesField::AddressesAre(Addresses {
                     origin,
@@ -74,10 +78,11 @@ fn heading(context: Context, kind: u8, instruction: u8, q: Sequence) -> Heading
 
 // The fields after the heading.
 fn rest(s: &[u8], heading: Heading, at: usize) -> Reading
+    requires { ⌜ length (now s) ≤ parameterMost ⌝ }
     ensures { λ r. ⌜ r ≡ afterAddresses heading (addressesField (now (s .entry)) (heading .kind) at) ⌝ }
 {
     match addresses_field(s, heading.kind, at) {
-        AddressesField::NoAddresses(n) => Reading::Refused(n),
+        AddressesField::NoAddresses(e) => Reading::Refused(e),
         AddressesField::AddressesAre(a) => {
             let origin = a.origin;
             let destination = a.destination;
@@ -91,21 +96,24 @@ fn rest(s: &[u8], heading: Heading, at: usize) -> Reading
     }
 }
 
-// A parameter's fields, or the number of the first check that applies to it.
+// A parameter's fields, or number and position of the first check that applies to it.
 pub fn read(registry: [Entry; 8], s: &[u8]) -> Reading
     ensures { λ r. ⌜ r ≡ reading registry (now (s .entry)) ⌝ }
 {
     if 255 < s.len() {
-        return Reading::Refused(4);
+        return Reading::Refused(Fault {
+            number: 4,
+            position: rules::NOWHERE,
+        });
     }
     match param_fields::context_field(registry, s) {
-        ContextField::NoContext(n) => Reading::Refused(n),
+        ContextField::NoContext(e) => Reading::Refused(e),
         ContextField::ContextIs(context, kind, at) => match param_fields::last_field(s, at) {
-            LastField::NotLast(n) => Reading::Refused(n),
+            LastField::NotLast(e) => Reading::Refused(e),
             LastField::LastIs(x, at3) => {
                 let instruction = x % 4;
                 match param_fields::sequence_field(s, at3) {
-                    SequenceField::NoSequence(n) => Reading::Refused(n),
+                    SequenceField::NoSequence(e) => Reading::Refused(e),
                     SequenceField::SequenceIs(q, next) => {
                         rest(s, heading(context, kind, instruction, q), next)
                     }

@@ -6,6 +6,7 @@ use mathlib.Core.List.{List}
 use native.Mathlib.Omega.{arith}
 use lib.ListN.{getD, set}
 use lib.Seq.{set-getD}
+use Rattle.rules.specs.Refusals.{nowhere}
 use Rattle.rules.specs.General.{if_then_else_}
 use Rattle.rules.specs.Numbers.{dataMost, storeLeast}
 use Rattle.rules.specs.Places.{freePlace, noPlace, isAt, putPlace}
@@ -24,8 +25,8 @@ puts {v} {i} {p} {q} {d} e f = e ∙ ap (λ (x : Place). takenTo i x d) f
 
 -- answers that differ in their places only
 pub places-answer : (t : Table) (d : Decision) (n : ℕ) {ps qs : List Place} → ps ≡ qs
-    → _≡_ {A = Received} (record { table = withPlaces t ps; decision = d; refusal = 0; records = n }) (record { table = withPlaces t qs; decision = d; refusal = 0; records = n })
-places-answer t d n e = ap (λ (l : List Place). record { table = withPlaces t l; decision = d; refusal = 0; records = n }) e
+    → _≡_ {A = Received} (record { table = withPlaces t ps; decision = d; position = nowhere; refusal = 0; records = n }) (record { table = withPlaces t qs; decision = d; position = nowhere; refusal = 0; records = n })
+places-answer t d n e = ap (λ (l : List Place). record { table = withPlaces t l; decision = d; position = nowhere; refusal = 0; records = n }) e
 
 -- a verdict saves from where it says, and has room where the one that it is has
 pub saved-as : {v w : Verdict} {i : ℕ} (n : ℕ) → v ≡ w → w .information ≡ i → ((store : ℕ) → storeLeast ≤ store → Fits w store n)

@@ -8,6 +8,7 @@ use Rattle.rules.specs.General.{if_then_else_}
 use Rattle.rules.specs.Numbers.{dataMost}
 use Rattle.rules.specs.Places.{freePlace, noPlace}
 use Rattle.rules.specs.Receiving.{openPlace, effectOf, Reception, receptionOf}
+use Rattle.rules.specs.Refusals.{unplaced}
 use Rattle.receive_perform.specs.Performing.{quietly}
 use Rattle.receive_perform.specs.declared.Verdict.{Verdict}
 use Rattle.receive_carry.specs.declared.Judged.{Judged}
@@ -36,7 +37,7 @@ carriedAt line t store report j octets =
 
 -- a verdict that does not refuse, by where the information is; it saves nothing and has no record
 abbrev pub takenTo : ℕ → Place → Decision → Verdict
-takenTo information put decision = quietly put decision 0 information
+takenTo information put decision = quietly put decision (unplaced 0) information
 
 -- .. one that saves, and one that has a record
 abbrev pub savingFrom : ℕ → Verdict → Verdict
@@ -47,6 +48,7 @@ savingFrom from v =
       information = v .information;
       from = from;
       octets = v .octets;
+      position = v .position;
       saves = true;
       refusal = v .refusal;
       records = v .records;
@@ -64,6 +66,7 @@ tellingOf kind cause instruction segments octets v =
       information = v .information;
       from = v .from;
       octets = octets;
+      position = v .position;
       saves = v .saves;
       refusal = v .refusal;
       records = 1;

@@ -1,6 +1,7 @@
 // The receiving lines judged: what each does with a segment. Nothing is written here.
 use receive_perform::Verdict;
 use rules::Decision;
+use rules::Fault;
 use rules::Fields;
 use rules::Found;
 use rules::Key;
@@ -93,7 +94,11 @@ fn instruction_of(j: Judged) -> u8
 fn taken(j: Judged, put: Place, decision: Decision) -> Verdict
     ensures { λ r. ⌜ r ≡ takenTo (j .fields .information) put decision ⌝ }
 {
-    receive_perform::quiet(put, decision, 0, j.fields.information)
+    let none = Fault {
+        number: 0,
+        position: rules::NOWHERE,
+    };
+    receive_perform::quiet(put, decision, none, j.fields.information)
 }
 
 // .. and one that saves the segment's information, in its place's stretch from an index on.

@@ -11,6 +11,7 @@ use Rattle.rules.specs.Numbers.{stretchLength, storeLeast}
 use Rattle.rules.specs.Records.{recordsOctets}
 use Rattle.rules.specs.Receiving.{saveAt, recordWith, Reception, withPlaces}
 use Rattle.receive_perform.specs.declared.Verdict.{Verdict}
+use Rattle.rules.specs.declared.Fault.{Fault}
 use Rattle.rules.specs.declared.Key.{Key}
 use Rattle.rules.specs.declared.Place.{Place}
 use Rattle.rules.specs.declared.Table.{Table}
@@ -20,16 +21,17 @@ use Rattle.rules.specs.declared.Decision.the-variants.{Refused}
 use Rattle.rules.specs.declared.Received.{Received}
 
 -- a verdict that writes nothing, and of these a refusal: the place stays as it is
-abbrev pub quietly : Place → Decision → ℕ → ℕ → Verdict
-quietly put decision refusal information =
+abbrev pub quietly : Place → Decision → Fault → ℕ → Verdict
+quietly put decision x information =
     record {
       put = put;
       decision = decision;
       information = information;
       from = 0;
       octets = 0;
+      position = x .position;
       saves = false;
-      refusal = refusal;
+      refusal = x .number;
       records = 0;
       kind = 0;
       instruction = 0;
@@ -37,8 +39,8 @@ quietly put decision refusal information =
       segments = 0;
     }
 
-abbrev pub refusedWith : ℕ → Place → Verdict
-refusedWith n held = quietly held Refused n 0
+abbrev pub refusedWith : Fault → Place → Verdict
+refusedWith x held = quietly held Refused x 0
 
 -- the records of a verdict on a segment of a key: one or none
 abbrev pub recordsIn : Verdict → Key → List Record
@@ -57,7 +59,8 @@ Fits v store n = v .saves ≡ true → (storeLeast ≤ store) × (v .from + n �
 
 -- the answer that a verdict makes of a table: one place changes
 abbrev pub answerOf : Table → ℕ → Verdict → Received
-answerOf t place v = record { table = withPlaces t (set (t .places) place (v .put)); decision = v .decision; refusal = v .refusal; records = v .records }
+answerOf t place v =
+    record { table = withPlaces t (set (t .places) place (v .put)); decision = v .decision; position = v .position; refusal = v .refusal; records = v .records }
 
 -- a verdict that, performed on a store and a report area, leaves what a rule does
 pub record Leads (o : Reception) (t : Table) (place : ℕ) (key : Key) (v : Verdict) (octets store report : List ℕ) : Type 0 where

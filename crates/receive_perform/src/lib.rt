@@ -1,5 +1,6 @@
 // A segment's verdict, and what performing it writes. Judging makes the verdict, and writes nothing.
 use rules::Decision;
+use rules::Fault;
 use rules::Key;
 use rules::Place;
 use rules::Record;
@@ -19,6 +20,7 @@ pub struct Verdict {
     pub information: usize,
     pub from: u16,
     pub octets: u16,
+    pub position: u16,
     pub saves: bool,
     pub refusal: u8,
     pub records: u8,
@@ -28,9 +30,9 @@ pub struct Verdict {
     pub segments: u8,
 }
 
-// A verdict that writes nothing: what its place is to hold, its decision, its refusal (0 is none), and where the information is.
-pub fn quiet(put: Place, decision: Decision, refusal: u8, information: usize) -> Verdict
-    ensures { λ r. ⌜ r ≡ quietly put decision refusal information ⌝ }
+// A verdict that writes nothing: what its place is to hold, its decision, its refusal (0 is none) with the octet at fault, and where the information is.
+pub fn quiet(put: Place, decision: Decision, fault: Fault, information: usize) -> Verdict
+    ensures { λ r. ⌜ r ≡ quietly put decision fault information ⌝ }
 {
     Verdict {
         put,
@@ -38,8 +40,9 @@ pub fn quiet(put: Place, decision: Decision, refusal: u8, information: usize) ->
         information,
         from: 0,
         octets: 0,
+        position: fault.position,
         saves: false,
-        refusal,
+        refusal: fault.number,
         records: 0,
         kind: 0,
         instruction: 0,

@@ -1,12 +1,12 @@
 -- What a reading says of the parameter.
 use Prim.Native.Nat.{ℕ, _≤_}
-use mathlib.Core.Path.{_≡_, refl, sym}
+use mathlib.Core.Path.{_≡_, refl, sym, ap}
 use mathlib.Core.Bool.{Bool, true, false}
 use mathlib.Core.List.{List}
 use native.Mathlib.Omega.{arith}
 use lib.ListN.{length}
 use Rattle.rules.specs.Numbers.{parameterMost, addressMost}
-use Rattle.rules.specs.Refusals.{accepted, first}
+use Rattle.rules.specs.Refusals.{accepted, first, fault}
 use Rattle.rules.specs.Layout.{fieldsOf, readingChecks}
 use Rattle.rules.proofs.Refusals.{first-least}
 use Rattle.rules.proofs.Least.{reading-least}
@@ -16,6 +16,7 @@ use Rattle.param_read.specs.declared.Reading.{Reading}
 use Rattle.param_read.specs.declared.Reading.the-variants.{Read, Refused}
 use Rattle.rules.specs.declared.Entry.{Entry}
 use Rattle.rules.specs.declared.Table.{Table}
+use Rattle.rules.specs.declared.Fault.{Fault}
 use Rattle.rules.specs.declared.Fields.{Fields}
 
 -- a parameter that is read is short, and so are its addresses
@@ -38,12 +39,12 @@ read-short t s f e = go (accepted (readingChecks (t .registry) s)) refl
         }
     go false a = let z : _≡_ {A = ℕ} 0 1 = let other = simp a at e in cc in absurd (let y : ⊥ = omega arith in y)
 
--- readings that are one have one number or the same fields
+-- readings that are one have the same fields
 pub read-same : (f g : Fields) → _≡_ {A = Reading} (Read f) (Read g) → f ≡ g
 read-same f g e = cc
 
-pub refused-read : (n : ℕ) (f : Fields) → _≡_ {A = Reading} (Refused n) (Read f) → ⊥
-refused-read n f e = let z : _≡_ {A = ℕ} 0 1 = cc in (let y : ⊥ = omega arith in y)
+pub refused-read : (x : Fault) (f : Fields) → _≡_ {A = Reading} (Refused x) (Read f) → ⊥
+refused-read x f e = let z : _≡_ {A = ℕ} 0 1 = cc in (let y : ⊥ = omega arith in y)
 
 -- what is read are the fields; what is not has a number
 pub read-fields : (registry : List Entry) (s : List ℕ) (f : Fields) → reading registry s ≡ Read f → fieldsOf registry s ≡ f
@@ -54,13 +55,14 @@ read-fields registry s f e = go (accepted (readingChecks registry s)) refl
     go true a = let same = simp a at e in cc
     go false a = absurd (refused-read _ f (simp a at e))
 
-pub read-number : (registry : List Entry) (s : List ℕ) (n : ℕ) → reading registry s ≡ Refused n → n ≡ 0 → ⊥
+pub read-number : (registry : List Entry) (s : List ℕ) (x : Fault) → reading registry s ≡ Refused x → x .number ≡ 0 → ⊥
 unfolding reading
-read-number registry s n e z = go (accepted (readingChecks registry s)) refl
+read-number registry s x e z = go (accepted (readingChecks registry s)) refl
   where
     go : (b : Bool) → accepted (readingChecks registry s) ≡ b → ⊥
-    go true a = refused-read n (fieldsOf registry s) (sym (simp a at e))
+    go true a = refused-read x (fieldsOf registry s) (sym (simp a at e))
     go false a =
-        let same : first (readingChecks registry s) ≡ n = let h = simp a at e in cc in
+        let same : fault (readingChecks registry s) ≡ x = let h = simp a at e in cc in
+        let number : first (readingChecks registry s) ≡ x .number = ap (λ (y : Fault). y .number) same in
         let least = first-least 2 (readingChecks registry s) (reading-least registry s) a in
         omega arith

@@ -6,15 +6,14 @@ use mathlib.Core.List.{List, [], _∷_, _++_}
 use native.Mathlib.Omega.{arith}
 use lib.ListN.{length, getD}
 use Rattle.rules.specs.General.{every}
-use Rattle.rules.specs.Refusals.{Check, judged}
+use Rattle.rules.specs.Refusals.{Check, unplaced, judgedAt}
 use Rattle.rules.specs.Layout.{isUnsegmented, fieldsOf, readingChecks}
 use Rattle.rules.specs.Places.{noPlace, freePlace, isOpen, placeOf, lowestFree, isAt, placeAt}
 use Rattle.rules.specs.Soundness.{freeSound, placeSound, sound}
 use Rattle.rules.proofs.Held.{open-is, places-sound}
 use Rattle.rules.proofs.Soundness.{open-parts, free-holds}
-use Rattle.rules.specs.declared.Entry.{Entry}
 use Rattle.rules.specs.Receiving.{keyOf, informationOf, lineOf, lineAt, isStart, effectOf, Reception, receptionOf, lentChecks, takingChecks, segmentChecks, segment, unreceived}
-use Rattle.rules.proofs.Refusals.{judged-append, judged-then}
+use Rattle.rules.proofs.Refusals.{fault-append, fault-then}
 use Rattle.param_read.specs.Reading.{reading}
 use Rattle.param_read.specs.declared.Reading.{Reading}
 use Rattle.param_read.specs.declared.Reading.the-variants.{Read, Refused}
@@ -23,6 +22,7 @@ use Rattle.rules.specs.declared.Place.{Place}
 use Rattle.rules.specs.declared.Table.{Table}
 use Rattle.rules.specs.declared.Heading.{Heading}
 use Rattle.rules.specs.declared.Fields.{Fields}
+use Rattle.rules.specs.declared.Fault.{Fault}
 use Rattle.rules.specs.declared.Found.{Found}
 use Rattle.rules.specs.declared.Found.the-variants.{At}
 use Rattle.rules.specs.declared.Line.{Line}
@@ -53,8 +53,8 @@ leads-of {o} {t} {at} {k} {v} {octets} {octets′} {st} {rp} e l =
     record { answered = l .answered; stored = ap (λ (x : List ℕ). savedBy v at x st) (sym e) ∙ l .stored; reported = l .reported; made = l .made }
 
 -- a refusal writes back what the place holds, and nothing else
-module _ (t : Table) (at n : ℕ) (k : Key) (held : Place) (v : Verdict) (there : held ≡ getD (t .places) at noPlace) (e : v ≡ refusedWith n held) where
-  pub refuses : (octets store report : List ℕ) → Leads (unreceived t store report n) t at k v octets store report
+module _ (t : Table) (at : ℕ) (x : Fault) (k : Key) (held : Place) (v : Verdict) (there : held ≡ getD (t .places) at noPlace) (e : v ≡ refusedWith x held) where
+  pub refuses : (octets store report : List ℕ) → Leads (unreceived t store report x) t at k v octets store report
   refuses octets store report =
       record {
         answered = ap (answerOf t at) e ∙ rw (kept (t .places) at held there);
@@ -66,8 +66,8 @@ module _ (t : Table) (at n : ℕ) (k : Key) (held : Place) (v : Verdict) (there 
   pub refused-fits : (store m : ℕ) → Fits v store m
   refused-fits store m w = absurd (true≢false (sym w ∙ ap (λ (x : Verdict). x .saves) e))
 
-  pub refused-verdict : (store report association : ℕ) (s : List ℕ) → (n ≡ 0 → ⊥)
-      → ((st rp : List ℕ) → length st ≡ store → length rp ≡ report → segment t st rp association s ≡ unreceived t st rp n)
+  pub refused-verdict : (store report association : ℕ) (s : List ℕ) → (x .number ≡ 0 → ⊥)
+      → ((st rp : List ℕ) → length st ≡ store → length rp ≡ report → segment t st rp association s ≡ unreceived t st rp x)
       → OfVerdict t store report association s at k v
   refused-verdict store report association s some is =
       record {
@@ -148,11 +148,11 @@ module _ (t : Table) (store report : List ℕ) (f : Fields) (octets : List ℕ) 
       roomy true h = refl
       roomy false h = absurd (true≢false h)
 
-  pub is-full : (isStart line && not (q .search .vacant)) ≡ true → unreceived t store report 10 ≡ arrival t store report (q .key) f octets
+  pub is-full : (isStart line && not (q .search .vacant)) ≡ true → unreceived t store report (unplaced 10) ≡ arrival t store report (q .key) f octets
   unfolding arrival
   is-full e = go (isUnsegmented (f .heading .new) (f .heading .remaining .0)) refl
     where
-      go : (b : Bool) → isUnsegmented (f .heading .new) (f .heading .remaining .0) ≡ b → unreceived t store report 10 ≡ arrival t store report (q .key) f octets
+      go : (b : Bool) → isUnsegmented (f .heading .new) (f .heading .remaining .0) ≡ b → unreceived t store report (unplaced 10) ≡ arrival t store report (q .key) f octets
       go true a = absurd (true≢false (sym (simp (alone-line a) at e)))
       go false a = simp (rw (line-at a) at (sym (same-room a) ∙ e))
 
@@ -190,11 +190,11 @@ fit t i s =
 
 -- after the first checks, reading; after reading, the arrival
 abbrev pub afterReading : Table → List ℕ → List ℕ → ℕ → List ℕ → Reading → Reception
-afterReading t store report association s (Refused n) = unreceived t store report n
+afterReading t store report association s (Refused x) = unreceived t store report x
 afterReading t store report association s (Read f) = arrival t store report (keyOf association s f) f (informationOf s f)
 
 pub segment-is : (t : Table) (store report : List ℕ) (association : ℕ) (s : List ℕ) (n m : ℕ) → length store ≡ n → length report ≡ m → segment t store report association s
-    ≡ judged (lentChecks (sound t) n m) (unreceived t store report) (afterReading t store report association s (reading (t .registry) s))
+    ≡ judgedAt (lentChecks (sound t) n m) (unreceived t store report) (afterReading t store report association s (reading (t .registry) s))
 unfolding segment segmentChecks reading arrival
 segment-is t store report association s n m a b =
     let f : Fields = fieldsOf (t .registry) s in
@@ -203,7 +203,7 @@ segment-is t store report association s n m a b =
     let areas : List Check = lentChecks (sound t) (length store) (length report) in
     let reads : List Check = readingChecks (t .registry) s in
     let full : List Check = takingChecks line (t .places) in
-    judged-append (areas ++ reads) full (unreceived t store report) _
-    ∙ judged-append areas reads (unreceived t store report) _
-    ∙ ap (λ (r : Reception). judged areas (unreceived t store report) r) (sym (judged-then (afterReading t store report association s) reads Refused (Read f)))
+    fault-append (areas ++ reads) full (unreceived t store report) _
+    ∙ fault-append areas reads (unreceived t store report) _
+    ∙ ap (λ (r : Reception). judgedAt areas (unreceived t store report) r) (sym (fault-then (afterReading t store report association s) reads Refused (Read f)))
     ∙ rw (a, b)

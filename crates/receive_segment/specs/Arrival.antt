@@ -4,7 +4,8 @@ use mathlib.Core.Path.{_≡_}
 use mathlib.Core.Bool.{Bool, true, false}
 use mathlib.Core.List.{List}
 use lib.ListN.{length, drop}
-use Rattle.rules.specs.Refusals.{judged}
+use Rattle.rules.specs.General.{if_then_else_}
+use Rattle.rules.specs.Refusals.{nowhere, judgedAt}
 use Rattle.rules.specs.Layout.{fieldsOf}
 use Rattle.rules.specs.Places.{placeOf, lowestFree, placeAt}
 use Rattle.rules.specs.Receiving.{informationOf, lineAt, effectOf, takingChecks, Reception, receptionOf, unreceived, segment}
@@ -24,7 +25,7 @@ arrival t store report key f octets =
     let place : Found = placeOf key (t .places) in
     let vacant : Found = lowestFree (t .places) in
     let line : Line = lineAt t key (f .heading) (length octets) in
-    judged (takingChecks line (t .places)) (unreceived t store report)
+    judgedAt (takingChecks line (t .places)) (unreceived t store report)
     (receptionOf t report (effectOf line t store key f octets place (placeAt (t .places) place) vacant))
 
 -- a verdict on a segment, with a store and a report area of these lengths: performed on any such two it leaves what the rule does, and what it saves has room
@@ -33,6 +34,10 @@ pub record OfVerdict (t : Table) (store report association : ℕ) (s : List ℕ)
   pub fits : Fits v store (length (drop (v .information) s))
   pub taken : v .refusal ≡ 0 → drop (v .information) s ≡ informationOf s (fieldsOf (t .registry) s)
   pub own : v .refusal ≡ 0 → key .association ≡ association
+
+-- the octet at fault: the verdict's, where the summary is sound
+abbrev pub blamedBy : Bool → Verdict → ℕ
+blamedBy isSummed v = if isSummed then v .position else nowhere
 
 -- the number of a call on a segment of n octets, by whether the summary is sound and by its verdict: 1, the verdict's, or the summary's last
 pub record OfWeighing (m : List ℕ) (isSummed : Bool) (association n : ℕ) (v : Verdict) (c : Count) : Type 0 where

@@ -5,6 +5,7 @@ use receive_count::Count;
 use receive_perform::Verdict;
 use receive_seek::Sought;
 use rules::Decision;
+use rules::Fault;
 use rules::Fields;
 use rules::Place;
 use rules::Received;
@@ -24,13 +25,14 @@ ghost use Rattle.param_read.specs.Reading.{reading};
 ghost use Rattle.receive_perform.specs.Performing.{refusedWith, Fits, Leads};
 ghost use Rattle.receive_count.specs.Counting.{sumsBy, OfCount};
 ghost use Rattle.receive_seek.specs.Seeking.{Seeks};
-ghost use Rattle.receive_segment.specs.Arrival.{arrival, OfVerdict, OfWeighing};
+ghost use Rattle.receive_segment.specs.Arrival.{arrival, OfVerdict, OfWeighing, blamedBy};
 
 // A refusal: the place stays as it is, and nothing is to be written.
-fn refused(number: u8, held: Place) -> Verdict
-    ensures { λ r. ⌜ r ≡ refusedWith number held ⌝ }
+fn refused(number: u8, position: u16, held: Place) -> Verdict
+    ensures { λ r. ⌜ r ≡ refusedWith (record { number = number; position = position }) held ⌝ }
 {
-    receive_perform::quiet(held, Decision::Refused, number, 0)
+    let fault = Fault { number, position };
+    receive_perform::quiet(held, Decision::Refused, fault, 0)
 }
 
 // The verdict on a segment that has been read. The checks of where its line takes it are the last ones.
@@ -48,7 +50,7 @@ fn arrive(t: Table, s: &[u8], f: Fields, q: Sought, held: Place) -> Verdict
     let line = receive_lines::line_of(search.found, remaining, held.octets, heading, n);
     let full = receive_lines::starts(line) & !search.vacant;
     if full {
-        return refused(10, held);
+        return refused(10, rules::NOWHERE, held);
     }
     let key = q.key;
     let j = Judged {
@@ -79,29 +81,30 @@ fn judge(
     ensures { λ r. ⌜ OfVerdict t store report association (now (s .entry)) (q .search .at) (q .key) r ⌝ }
 {
     if !is_sound {
-        return refused(1, held);
+        return refused(1, rules::NOWHERE, held);
     }
     if store < rules::STORE {
-        return refused(2, held);
+        return refused(2, rules::NOWHERE, held);
     }
     if report < rules::RECORD {
-        return refused(3, held);
+        return refused(3, rules::NOWHERE, held);
     }
     let reading = q.reading;
     match reading {
-        Reading::Refused(number) => refused(number, held),
+        Reading::Refused(fault) => refused(fault.number, fault.position, held),
         Reading::Read(f) => arrive(t, s, f, q, held),
     }
 }
 
 // The answer to a segment, refused or taken, with the table as it is left.
 fn received(t: Table, v: Verdict) -> Received
-    ensures { λ r. ⌜ r ≡ record { table = t; decision = v .decision; refusal = v .refusal; records = v .records } ⌝ }
+    ensures { λ r. ⌜ r ≡ record { table = t; decision = v .decision; position = v .position; refusal = v .refusal; records = v .records } ⌝ }
 {
     let decision = v.decision;
     Received {
         table: t,
         decision,
+        position: v.position,
         refusal: v.refusal,
         records: v.records,
     }
@@ -129,14 +132,24 @@ fn count(
     receive_count::judge(m, association, n, v)
 }
 
+// The octet at fault: the verdict's, unless the summary was refused before it. Neither a verdict that does not refuse nor the summary blames one.
+fn position_of(is_summed: bool, v: Verdict) -> u16
+    ensures { λ r. ⌜ r ≡ blamedBy «is_summed» v ⌝ }
+{
+    if is_summed {
+        return v.position;
+    }
+    rules::NOWHERE
+}
+
 // The last verdict: a refusal where the summary, or a check before it, refuses.
-fn settle(c: Count, held: Place, v: Verdict) -> Verdict
-    ensures { λ r. ⌜ (c .refusal ≡ 0 → r ≡ v) × ((c .refusal ≡ 0 → ⊥) → r ≡ refusedWith (c .refusal) held) ⌝ }
+fn settle(c: Count, is_summed: bool, held: Place, v: Verdict) -> Verdict
+    ensures { λ r. ⌜ (c .refusal ≡ 0 → r ≡ v) × ((c .refusal ≡ 0 → ⊥) → r ≡ refusedWith (record { number = c .refusal; position = blamedBy «is_summed» v }) held) ⌝ }
 {
     if c.refusal == 0 {
         return v;
     }
-    refused(c.refusal, held)
+    refused(c.refusal, position_of(is_summed, v), held)
 }
 
 // Counts a segment in the summary, unless it is refused.
@@ -183,7 +196,7 @@ pub fn segment(
     let octets = param_read::tail(s, v.information);
     let n = octets.len();
     let c = count(m, is_summed, association, n, v);
-    let w = settle(c, held, v);
+    let w = settle(c, is_summed, held, v);
     tally(m, c, association, n, v);
     let key = q.key;
     receive_perform::perform(w, at, key, store, report, octets);

@@ -4,19 +4,19 @@ use mathlib.Core.Path.{_≡_}
 use mathlib.Core.Bool.{Bool, true, false, not}
 use mathlib.Core.List.{List, [], _∷_, _++_}
 use borrow.Author.Tests.{not-false}
-use Rattle.rules.specs.Refusals.{Check, _when_, accepted, first, judged}
+use Rattle.rules.specs.Refusals.{Check, _when_, accepted, first, fault, judged}
 use Rattle.rules.specs.Registry.{entriesOf}
 use Rattle.rules.specs.Places.{isAt}
 use Rattle.rules.specs.Opening.{emptyTable, unopenedBy, openingChecks, opening}
 use Rattle.rules.specs.Receiving.{Reception, receivedAt, segmentChecks, unreceived}
 use Rattle.rules.specs.Sweep.{Sweeping, unswept, clockChecks, releaseChecks}
 use Rattle.rules.specs.Summary.{Counted, counting, summarySound, rowFor, fits, summaryChecks, rowChecks, totalChecks}
-use Rattle.rules.specs.Summary.{segmentSums, segmentChecksWith, segmentWith, sweepSums, sweepWith, clockChecksWith, clockWith, releaseChecksWith, releaseWith}
+use Rattle.rules.specs.Summary.{segmentSums, segmentChecksWith, segmentWith, sweepSums, clockChecksWith, clockWith, releaseChecksWith, releaseWith}
 use Rattle.rules.specs.Sweep.{clockSweep, releaseSweep}
 use Rattle.rules.specs.declared.Place.{Place}
 use Rattle.rules.specs.declared.Table.{Table}
 use Rattle.rules.specs.declared.Opened.{Opened}
-use Rattle.rules.proofs.Refusals.{judged-by, accepted-both, accepted-one}
+use Rattle.rules.proofs.Refusals.{judged-by, fault-by, accepted-both, accepted-one}
 
 pub opened-by : (P : Opened → Type 0) (registry : List ℕ) (timer time : ℕ)
     → (accepted (openingChecks registry timer) ≡ true → P (record { table = emptyTable (entriesOf registry) timer time; refusal = 0 }))
@@ -31,12 +31,12 @@ module _ (t : Table) (m store report : List ℕ) (association : ℕ) (s : List �
 
   pub segment-with : (P : Counted Reception → Type 0)
       → (accepted checks ≡ true → P (counting (segmentSums t m store report association s) (receivedAt t store report association s)))
-      → (accepted checks ≡ false → P (counting m (unreceived t store report (first checks)))) → P (segmentWith t m store report association s)
+      → (accepted checks ≡ false → P (counting m (unreceived t store report (fault checks)))) → P (segmentWith t m store report association s)
   unfolding segmentWith
-  segment-with P carried refused = judged-by P checks (λ n. counting m (unreceived t store report n)) _ carried refused
+  segment-with P carried refused = fault-by P checks (λ x. counting m (unreceived t store report x)) _ carried refused
 
   pub segment-by : (P : Reception → Type 0) → (accepted checks ≡ true → P (receivedAt t store report association s))
-      → (accepted checks ≡ false → P (unreceived t store report (first checks))) → P (segmentWith t m store report association s .call)
+      → (accepted checks ≡ false → P (unreceived t store report (fault checks))) → P (segmentWith t m store report association s .call)
   segment-by P carried refused = segment-with (λ (o : Counted Reception). P (o .call)) carried refused
 
 -- the clock and the release, with the summary

@@ -4,7 +4,6 @@ use mathlib.Core.Path.{_≡_}
 use mathlib.Core.Bool.{Bool, true, false, not, _&&_, and-eq-true-iff}
 use mathlib.Core.List.{List, [], _∷_, _++_}
 use borrow.Author.Tests.{ltb-false, not-true, not-false}
-use lib.Dec.{ltb}
 use lib.ListN.{length}
 use Rattle.rules.specs.Numbers.{storeLeast}
 use Rattle.rules.specs.Refusals.{Check, _when_, accepted}
@@ -12,7 +11,7 @@ use Rattle.rules.specs.Layout.{fieldsOf, readingChecks}
 use Rattle.rules.specs.Records.{recordLength}
 use Rattle.rules.specs.Places.{lowestFree, isAt}
 use Rattle.rules.specs.Soundness.{sound}
-use Rattle.rules.specs.Receiving.{keyOf, informationOf, isStart, lineAt, segmentChecks}
+use Rattle.rules.specs.Receiving.{keyOf, informationOf, isStart, lineAt, lentChecks, segmentChecks}
 use Rattle.rules.specs.declared.Table.{Table}
 use Rattle.rules.specs.declared.Line.{Line}
 use Rattle.rules.proofs.Refusals.{accepted-both}
@@ -35,7 +34,7 @@ vacant-left false b e h = cc
 
 module _ (t : Table) (store report : List ℕ) (association : ℕ) (s : List ℕ) (e : accepted (segmentChecks t store report association s) ≡ true) where
   abbrev three : List Check
-  three = 1 when not (sound t) ∷ 2 when ltb (length store) storeLeast ∷ 3 when ltb (length report) recordLength ∷ []
+  three = lentChecks (sound t) (length store) (length report)
 
   abbrev ten : List Check
   ten = 10 when (isStart (lineFor t association s) && not (isAt (lowestFree (t .places)))) ∷ []

@@ -25,3 +25,5 @@ pub mod Fitting
 pub mod Seats
 pub mod Least
 pub mod Shortest
+pub mod Blamed
+pub mod Alike

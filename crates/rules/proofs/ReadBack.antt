@@ -11,7 +11,7 @@ use lib.ListN.{length, take, drop, length-append, length-drop}
 use lib.Seq.{getD-drop, drop-drop, take-append-seam, drop-append-seam}
 use Rattle.rules.specs.General.{if_then_else_}
 use Rattle.rules.specs.Numbers.{parameterMost}
-use Rattle.rules.specs.Refusals.{Check, _when_, accepted}
+use Rattle.rules.specs.Refusals.{Check, _for_over_, accepted}
 use Rattle.rules.specs.Registry.{kindOf}
 use Rattle.rules.specs.Layout.{octet, contextOf, at2, at3, isNew, remainingOf, isUnsegmented, referenceOf, pastSequence, originAt, pastAddress, hasAddresses, spanAt, informationAt, fieldsOf, lastChecks, contextChecks, sequenceChecks, addressChecks, addressesChecks, readingChecks, contextOctets, sequenceOctets, addressesOctets, parameterOctets}
 use Rattle.rules.specs.Records.{addressOf}
@@ -33,6 +33,9 @@ module _ (s : List ℕ) (at x : ℕ) (rest : List ℕ) (e : drop at s ≡ x ∷ 
   inside : at < length s
   inside = omega (arith, length-drop at s, ap length e)
 
+  there : at + 1 ≤ length s
+  there = omega (arith, inside)
+
   next : drop (at + 1) s ≡ rest
   next = sym (drop-drop 1 at s) ∙ ap (drop 1) e
 
@@ -43,7 +46,7 @@ both xs ys a b = accepted-append xs ys ∙ rw (a, b)
 last-accepted : (s : List ℕ) (at v : ℕ) (rest : List ℕ) → drop at s ≡ (128 + v) ∷ rest → accepted (lastChecks s at) ≡ true
 last-accepted s at v rest e =
     let b : 128 ≤ 128 + v = omega arith in
-    simp (lt-leb _ _ (inside s at (128 + v) rest e), octet-is s at (128 + v) rest e, le-leb _ _ b)
+    simp (le-ltb _ _ (there s at (128 + v) rest e), octet-is s at (128 + v) rest e, le-ltb _ _ b)
 
 -- octets 1 and 1a
 record ContextBack (r : List Entry) (x : ℕ) (s rest : List ℕ) : Type 0 where
@@ -62,23 +65,23 @@ context-back r x rest most known = go (ltb x 128) refl
         let less = ltb-true x 128 t in
         let b : 128 ≤ 128 + x = omega arith in
         let m : (128 + x) % 128 ≡ x = omega arith in
-        let there : 0 < length ((128 + x) ∷ rest) = omega arith in
+        let there : 1 ≤ length ((128 + x) ∷ rest) = omega arith in
         record {
           value = simp (le-leb _ _ b, m);
-          checks = simp (lt-leb _ _ there, le-leb _ _ b, m, unknown);
+          checks = simp (le-ltb _ _ there, le-leb _ _ b, m, unknown);
           past = simp (le-leb _ _ b);
         }
     go false t =
         let low : x % 128 < 128 = omega arith in
         let b : 128 ≤ 128 + x / 128 = omega arith in
         let m : x % 128 % 128 + 128 * ((128 + x / 128) % 128) ≡ x = omega arith in
-        let there : 0 < length (x % 128 ∷ (128 + x / 128) ∷ rest) = omega arith in
-        let there1 : 1 < length (x % 128 ∷ (128 + x / 128) ∷ rest) = omega arith in
-        let over = ltb-false x 128 t in
+        let there : 1 ≤ length (x % 128 ∷ (128 + x / 128) ∷ rest) = omega arith in
+        let there1 : 2 ≤ length (x % 128 ∷ (128 + x / 128) ∷ rest) = omega arith in
+        let two = ltb-false x 128 t in
         let upper : (128 + x / 128) % 128 ≡ 0 → ⊥ = λ e. omega arith in
         record {
           value = simp (lt-leb _ _ low, m);
-          checks = simp (lt-leb _ _ there, lt-leb _ _ there1, lt-leb _ _ low, le-leb _ _ b, ne-eqb _ _ upper, m, unknown);
+          checks = simp (le-ltb _ _ there, le-ltb _ _ there1, lt-leb _ _ low, le-ltb _ _ b, ne-eqb _ _ upper, m, unknown);
           past = simp (lt-leb _ _ low);
         }
 
@@ -119,7 +122,7 @@ sequence-back g s at rest most alone apart = go (isUnsegmented (g .new) (g .rema
           new = rw o (sym (parts .0));
           remaining = rw o (sym (eqb-true (g .remaining .0) 0 (parts .1)));
           reference = simp o (sym (alone t));
-          checks = simp (lt-leb _ _ (inside s at 192 rest e), o);
+          checks = simp (le-ltb _ _ (there s at 192 rest e), o);
           past = simp o (next s at 192 rest e);
         }
     go false t e =
@@ -137,7 +140,7 @@ sequence-back g s at rest most alone apart = go (isUnsegmented (g .new) (g .rema
           new = rw o (is .isNew-is);
           remaining = rw o (is .remaining-is);
           reference = simp (o, lt-leb _ _ (is .low), o1, m);
-          checks = simp (lt-leb _ _ (inside s at x (y ∷ rest) e), o, lt-leb _ _ (is .low), lt-leb _ _ (inside s (at + 1) y rest f), o1, le-leb _ _ b, is .isNew-is, is .remaining-is, t);
+          checks = simp (le-ltb _ _ (there s at x (y ∷ rest) e), o, lt-leb _ _ (is .low), le-ltb _ _ (there s (at + 1) y rest f), o1, le-ltb _ _ b, is .isNew-is, is .remaining-is, t);
           past = simp (o, lt-leb _ _ (is .low), two) (next s (at + 1) y rest f);
         }
 
@@ -153,7 +156,7 @@ address-back : (a s : List ℕ) (at : ℕ) (rest : List ℕ) → length a ≤ 20
 address-back a s at rest most e =
     let size = octet-is s at (length a) (a ++ rest) e in
     let f = next s at (length a) (a ++ rest) e in
-    let here = inside s at (length a) (a ++ rest) e in
+    let here = there s at (length a) (a ++ rest) e in
     let l = length-drop (at + 1) s in
     let l1 = ap length f in
     let l2 = length-append a rest in
@@ -163,7 +166,7 @@ address-back a s at rest most e =
       size = size;
       octets = octets;
       address = rw (size, octets);
-      checks = simp (lt-leb _ _ here, size, le-ltb _ _ most, le-ltb _ _ fits);
+      checks = simp (le-ltb _ _ here, size, le-ltb _ _ most, le-ltb _ _ fits);
       past = rw (size, ← drop-drop (length a) (at + 1) s, f) (drop-append-seam a rest);
     }
 
@@ -256,7 +259,7 @@ module _ (r : List Entry) (g : Heading) (o d information : List ℕ) (w : Writab
       let sequence = sequence-back g s (at3 s) rest (w .remaining) (w .alone) (w .apart) past2 in
       let none : (g .kind ≡ 2 → ⊥) → length o + length d ≡ 0 = λ other. omega (arith, w .unaddressed (omega (arith, w .registered, w .known, other))) in
       let addresses = addresses-back (g .kind) o d s (originAt s) information (w .origin) (w .destination) none (sequence .past) in
-      let four : List Check = 4 when ltb parameterMost (length s) ∷ [] in
+      let four : List Check = 4 for length s over parameterMost ∷ [] in
       let cs : List Check = contextChecks r s in
       let ls : List Check = lastChecks s (at2 s) in
       let qs : List Check = sequenceChecks s (at3 s) in

@@ -1,17 +1,17 @@
 -- What a parameter that is read keeps to.
 use Prim.Native.Nat.{ℕ, _+_, _%_, _≤_}
 use mathlib.Core.Path.{_≡_, refl}
-use mathlib.Core.Bool.{Bool, true, false, Bool·beq, and-eq-true-iff}
+use mathlib.Core.Bool.{Bool, true, false, not, and-eq-true-iff}
 use mathlib.Core.List.{List, [], _∷_, _++_}
 use native.Mathlib.Omega.{arith}
 use borrow.Author.Tests.{ltb-false, eqb-false, not-true}
-use lib.Dec.{eqb, ltb}
+use lib.Dec.{eqb}
 use lib.ListN.{length}
 use Rattle.rules.specs.General.{if_then_else_}
 use Rattle.rules.specs.Numbers.{parameterMost, addressMost, referenceMost}
-use Rattle.rules.specs.Refusals.{Check, _when_, accepted}
+use Rattle.rules.specs.Refusals.{Check, _when_, _for_over_, _for_unlike_, _blaming_, accepted}
 use Rattle.rules.specs.Registry.{kindOf}
-use Rattle.rules.specs.Layout.{octet, has1a, has3a, isMissing, isUnsegmented, isNew, remainingOf, referenceOf, contextOf, at2, at3, originAt, pastAddress, hasAddresses, fieldsOf, lastChecks, secondChecks, contextChecks, sequenceChecks, addressChecks, addressesChecks, readingChecks}
+use Rattle.rules.specs.Layout.{octet, has1a, has3a, isUnsegmented, isNew, remainingOf, referenceOf, contextOf, at2, at3, originAt, pastAddress, hasAddresses, fieldsOf, lastOfContext, count3a, cutBefore, lastChecks, secondChecks, contextChecks, sequenceChecks, addressChecks, addressesChecks, readingChecks}
 use Rattle.rules.specs.declared.Entry.{Entry}
 use Rattle.rules.proofs.Refusals.{accepted-both, accepted-one}
 
@@ -34,7 +34,7 @@ both-short s at false kind h e = record { origin = omega arith; destination = om
 
 module _ (registry : List Entry) (s : List ℕ) (e : accepted (readingChecks registry s) ≡ true) where
   abbrev four : List Check
-  four = 4 when ltb parameterMost (length s) ∷ []
+  four = 4 for length s over parameterMost ∷ []
 
   abbrev addresses : List Check
   addresses = addressesChecks (kindOf registry (contextOf s)) s (originAt s)
@@ -68,20 +68,21 @@ module _ (registry : List Entry) (s : List ℕ) (e : accepted (readingChecks reg
 
   pub context-registered : kindOf registry (contextOf s) ≡ 0 → ⊥
   context-registered =
-      let last = accepted-both ((5 when isMissing s 0 ∷ []) ++ (if has1a s then secondChecks s else [])) (8 when eqb (kindOf registry (contextOf s)) 0 ∷ []) context-accepted .1 in
-      eqb-false (kindOf registry (contextOf s)) 0 (accepted-one (8 when eqb (kindOf registry (contextOf s)) 0) last)
+      let eight : Check = 8 when eqb (kindOf registry (contextOf s)) 0 blaming lastOfContext s in
+      let last = accepted-both ((cutBefore s 1 ∷ []) ++ (if has1a s then secondChecks s else [])) (eight ∷ []) context-accepted .1 in
+      eqb-false (kindOf registry (contextOf s)) 0 (accepted-one eight last)
 
   -- octet 3a is there where the parameter is segmented
   pub reference-short : isUnsegmented (isNew (octet s (at3 s))) (remainingOf (octet s (at3 s))) ≡ false → referenceOf s (at3 s) ≤ referenceMost
   reference-short h = go (has3a (octet s (at3 s))) (isUnsegmented (isNew (octet s (at3 s))) (remainingOf (octet s (at3 s)))) h (accepted-one seven last)
     where
       seven : Check
-      seven = 7 when Bool·beq (has3a (octet s (at3 s))) (isUnsegmented (isNew (octet s (at3 s))) (remainingOf (octet s (at3 s))))
+      seven = 7 for count3a (has3a (octet s (at3 s))) unlike count3a (not (isUnsegmented (isNew (octet s (at3 s))) (remainingOf (octet s (at3 s))))) blaming at3 s
 
       last : accepted (seven ∷ []) ≡ true
-      last = accepted-both ((5 when isMissing s (at3 s) ∷ []) ++ (if has3a (octet s (at3 s)) then lastChecks s (at3 s + 1) else [])) (seven ∷ []) (sequence .1) .1
+      last = accepted-both ((cutBefore s (at3 s + 1) ∷ []) ++ (if has3a (octet s (at3 s)) then lastChecks s (at3 s + 1) else [])) (seven ∷ []) (sequence .1) .1
 
-      go : (b alone : Bool) → alone ≡ false → Bool·beq b alone ≡ false → (if b then octet s (at3 s + 1) % 128 else 255) ≤ referenceMost
+      go : (b alone : Bool) → alone ≡ false → not (eqb (count3a b) (count3a (not alone))) ≡ false → (if b then octet s (at3 s + 1) % 128 else 255) ≤ referenceMost
       go true alone a e = omega arith
       go false true a e = let z : _≡_ {A = ℕ} 0 1 = cc in omega arith
       go false false a e = let z : _≡_ {A = ℕ} 0 1 = cc in omega arith

@@ -4,9 +4,8 @@ use mathlib.Core.Path.{_≡_, refl, sym, ap, _∙_}
 use mathlib.Core.Bool.{Bool, true, false, true≢false, and-eq-true-iff}
 use mathlib.Core.List.{List, [], _∷_}
 use native.Mathlib.Omega.{arith}
-use borrow.Author.Tests.{leb-true, leb-false, eqb-false, lt-ltb, le-ltb, not-true, not-false}
-use lib.Dec.{leb, ltb}
-use Rattle.rules.specs.General.{if_then_else_}
+use borrow.Author.Tests.{leb-true, leb-false, ltb-false, eqb-false, lt-ltb, le-ltb, not-true}
+use lib.Dec.{leb}
 use Rattle.rules.specs.Refusals.{accepted}
 use Rattle.rules.specs.Layout.{octet, contextOf, contextPart, contextChecks, readingChecks, contextOctets}
 use Rattle.rules.specs.declared.Entry.{Entry}
@@ -40,8 +39,7 @@ by-context registry (x ∷ rest) e o1 o1a = go (leb 128 x) refl rest e o1a
     go false t [] e o1a = let c = simp (t, and-eq-true-iff) at e in absurd (true≢false (sym (c .1 .0)))
     go false t (y ∷ rest) e o1a =
         let c = simp (t, and-eq-true-iff) at e in
-        let last : leb 128 y ≡ true = not-false (leb 128 y) (not-true _ (c .1 .1 .0)) in
-        simp t (shortest-two x y (leb-false _ _ t) (leb-true _ _ last) o1a (eqb-false _ _ (not-true _ (c .1 .1 .1 .0))))
+        simp t (shortest-two x y (leb-false _ _ t) (ltb-false y 128 (not-true _ (c .1 .1 .0))) o1a (eqb-false _ _ (not-true _ (c .1 .1 .1 .0))))
 
 module _ (registry : List Entry) (s : List ℕ) (e : accepted (readingChecks registry s) ≡ true) (octet1 : octet s 0 < 256) (octet1a : octet s 1 < 256) where
   -- the context octets of an accepted parameter are those that we write ourselves

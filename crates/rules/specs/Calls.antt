@@ -1,11 +1,13 @@
 -- Which calls there are, and what each does to the state that is handed on from call to call: the table, the summary and the lent store.
 use Prim.Native.Nat.{ℕ}
 use mathlib.Core.List.{List, []}
+use Rattle.rules.specs.Refusals.{nowhere, unplaced}
 use Rattle.rules.specs.Receiving.{Reception}
 use Rattle.rules.specs.Sweep.{Sweeping}
 use Rattle.rules.specs.Opening.{opening}
 use Rattle.rules.specs.Summary.{Counted, segmentWith, clockWith, releaseWith, emptySummary}
 use Rattle.rules.specs.Sending.{Sending, sending}
+use Rattle.rules.specs.declared.Fault.{Fault}
 use Rattle.rules.specs.declared.Table.{Table}
 use Rattle.rules.specs.declared.Request.{Request}
 use Rattle.rules.specs.declared.Opened.{Opened}
@@ -89,19 +91,21 @@ pub data Decided : Type 0 where
   Undecided : Decided
   As : Decision → Decided
 
--- all that a call answers, with the areas after it; what it has no part in is 0
+-- all that a call answers, with the areas after it; what it has no part in is 0, and its position nowhere
 pub record Answer : Type 0 where
   pub refusal : ℕ
+  pub position : ℕ
   pub records : ℕ
   pub decided : Decided
   pub count : ℕ
   pub length : ℕ
   pub lent : Lent
 
-abbrev pub answering : ℕ → ℕ → Decided → Lent → Answer
-answering refusal records decided lent = record { refusal = refusal; records = records; decided = decided; count = 0; length = 0; lent = lent }
+abbrev pub answering : Fault → ℕ → Decided → Lent → Answer
+answering x records decided lent =
+    record { refusal = x .number; position = x .position; records = records; decided = decided; count = 0; length = 0; lent = lent }
 
--- a refused call's: its number, and of a segment that it is refused
+-- a refused call's: its number, and of a segment that it is refused, and where
 abbrev pub refusedAs : Call → Decided
 refusedAs (Opens x) = Undecided
 refusedAs (Arrives x) = As Refused
@@ -109,34 +113,36 @@ refusedAs (Ticks x) = Undecided
 refusedAs (Releases x) = Undecided
 refusedAs (Sends x) = Undecided
 
-abbrev pub refusing : ℕ → Call → Answer
-refusing n c = answering n 0 (refusedAs c) (lentOf c)
+abbrev pub refusing : Fault → Call → Answer
+refusing x c = answering x 0 (refusedAs c) (lentOf c)
 
 pub record Outcome : Type 0 where
   pub answer : Answer
   pub state : State
 
 abbrev pub afterOpening : List ℕ → Opened → Outcome
-afterOpening store o = record { answer = answering (o .refusal) 0 Undecided (lending [] []); state = stateOf (o .table) emptySummary store }
+afterOpening store o = record { answer = answering (unplaced (o .refusal)) 0 Undecided (lending [] []); state = stateOf (o .table) emptySummary store }
 
 abbrev pub afterSegment : Counted Reception → Outcome
 afterSegment o =
     record {
-      answer = answering (o .call .answer .refusal) (o .call .answer .records) (As (o .call .answer .decision)) (lending (o .call .report) []);
+      answer =
+          answering (record { number = o .call .answer .refusal; position = o .call .answer .position }) (o .call .answer .records)
+          (As (o .call .answer .decision)) (lending (o .call .report) []);
       state = stateOf (o .call .answer .table) (o .summary) (o .call .store);
     }
 
 abbrev pub afterSweep : List ℕ → Counted Sweeping → Outcome
 afterSweep store o =
     record {
-      answer = answering (o .call .answer .refusal) (o .call .answer .records) Undecided (lending (o .call .report) []);
+      answer = answering (unplaced (o .call .answer .refusal)) (o .call .answer .records) Undecided (lending (o .call .report) []);
       state = stateOf (o .call .answer .table) (o .summary) store;
     }
 
 abbrev pub afterSending : State → Sending → Outcome
 afterSending st o =
     record {
-      answer = record { refusal = o .answer .refusal; records = 0; decided = Undecided; count = o .answer .count; length = o .answer .length; lent = lending [] (o .area) };
+      answer = record { refusal = o .answer .refusal; position = nowhere; records = 0; decided = Undecided; count = o .answer .count; length = o .answer .length; lent = lending [] (o .area) };
       state = st;
     }
 

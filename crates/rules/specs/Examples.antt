@@ -5,6 +5,7 @@ use mathlib.Core.List.{List, [], _∷_, _++_, map}
 use lib.ListN.{length, take, replicate}
 use Rattle.rules.specs.General.{those}
 use Rattle.rules.specs.Numbers.{storeLeast}
+use Rattle.rules.specs.Refusals.{nowhere}
 use Rattle.rules.specs.Records.{recordLength}
 use Rattle.rules.specs.Places.{isOpen}
 use Rattle.rules.specs.Receiving.{Reception, segment}
@@ -23,9 +24,10 @@ pub data Case : Type 0 where
   Receives : List (List ℕ) → Case
   Cuts : List ℕ → ℕ → ℕ → ℕ → Case
 
--- what is seen of an arrival: its refusal, the octets of its records, the octets delivered, and how many places are open after it
+-- what is seen of an arrival: its refusal and position, the octets of its records, the octets delivered, and how many places are open after it
 pub record Seen : Type 0 where
   pub refusal : ℕ
+  pub position : ℕ
   pub records : List ℕ
   pub delivered : List ℕ
   pub opened : ℕ
@@ -39,6 +41,7 @@ abbrev seenOf : List ℕ → Reception → Seen
 seenOf s o =
     record {
       refusal = o .answer .refusal;
+      position = o .answer .position;
       records = take (o .answer .records * recordLength) (o .report);
       delivered = delivery (o .answer .decision) s (o .store);
       opened = length (those isOpen (o .answer .table .places));
@@ -61,16 +64,16 @@ abbrev pub resultOf : Case → Result
 resultOf (Receives parameters) = Saw (seenFrom fresh (replicate storeLeast 0) parameters)
 resultOf (Cuts whole room1 room k) = madeOf (sending fresh (asked room1 room k) [] [] whole (replicate 255 0xEE))
 
--- a refusal, with so many places open; a save; a record that ends a sequence, with the octets that it delivers
-abbrev refusedWith : ℕ → ℕ → Seen
-refusedWith n opened = record { refusal = n; records = []; delivered = []; opened = opened }
+-- a refusal at a position, with no place open; a save, with so many open; a record that ends a sequence, with the octets that it delivers
+abbrev refusedAt : ℕ → ℕ → Seen
+refusedAt n at = record { refusal = n; position = at; records = []; delivered = []; opened = 0 }
 
 abbrev saved : ℕ → Seen
-saved opened = refusedWith 0 opened
+saved opened = record { refusal = 0; position = nowhere; records = []; delivered = []; opened = opened }
 
 -- a record's octets before its addresses, which are empty: 2 lengths and 40 octets
 abbrev ended : List ℕ → List ℕ → Seen
-ended head handed = record { refusal = 0; records = head ++ replicate 42 0; delivered = handed; opened = 0 }
+ended head handed = record { refusal = 0; position = nowhere; records = head ++ replicate 42 0; delivered = handed; opened = 0 }
 
 abbrev m3 : List ℕ
 m3 = 0x83 ∷ 0x81 ∷ 0x41 ∷ 0x85 ∷ 0xAA ∷ []
@@ -94,8 +97,8 @@ five = 1 ∷ 2 ∷ 3 ∷ 4 ∷ 5 ∷ []
 
 abbrev pub examples : List Example
 examples =
-    -- M1 empty parameter: 5
-    arrives ([] ∷ []) (refusedWith 5 0 ∷ [])
+    -- M1 empty parameter: 5. The positions are document 02's, A5
+    arrives ([] ∷ []) (refusedAt 5 0 ∷ [])
     -- M2: Delivered, 2 octets, 1 segment, reference 255
     ∷ arrives ((0x83 ∷ 0x80 ∷ 0xC0 ∷ 0xAA ∷ 0xBB ∷ []) ∷ []) (ended (18 ∷ 0 ∷ 9 ∷ 0 ∷ 3 ∷ 255 ∷ 0 ∷ 0 ∷ 1 ∷ 0 ∷ 2 ∷ []) (0xAA ∷ 0xBB ∷ []) ∷ [])
     -- M3: Delivered AA BB, 2 segments, instruction 1
@@ -106,16 +109,16 @@ examples =
     ∷ arrives ((0x83 ∷ 0x80 ∷ 0x49 ∷ 0x85 ∷ []) ∷ []) (saved 1 ∷ [])
     ∷ arrives ((0x83 ∷ 0x80 ∷ 0x4A ∷ 0x85 ∷ []) ∷ []) (ended (19 ∷ 0 ∷ 9 ∷ 0 ∷ 3 ∷ 5 ∷ 0 ∷ 4 ∷ 1 ∷ 0 ∷ 0 ∷ []) [] ∷ [])
     -- M7: 7. M8: 7. M9: 6. M10: 8
-    ∷ arrives ((0x83 ∷ 0x80 ∷ 0x40 ∷ 0x85 ∷ []) ∷ []) (refusedWith 7 0 ∷ [])
-    ∷ arrives ((0x83 ∷ 0x80 ∷ 0xC1 ∷ []) ∷ []) (refusedWith 7 0 ∷ [])
-    ∷ arrives ((0x83 ∷ 0x00 ∷ []) ∷ []) (refusedWith 6 0 ∷ [])
-    ∷ arrives ((0x85 ∷ []) ∷ []) (refusedWith 8 0 ∷ [])
+    ∷ arrives ((0x83 ∷ 0x80 ∷ 0x40 ∷ 0x85 ∷ []) ∷ []) (refusedAt 7 2 ∷ [])
+    ∷ arrives ((0x83 ∷ 0x80 ∷ 0xC1 ∷ []) ∷ []) (refusedAt 7 2 ∷ [])
+    ∷ arrives ((0x83 ∷ 0x00 ∷ []) ∷ []) (refusedAt 6 1 ∷ [])
+    ∷ arrives ((0x85 ∷ []) ∷ []) (refusedAt 8 0 ∷ [])
     -- M11: two open places
     ∷ arrives
     ((0x84 ∷ 0x80 ∷ 0x41 ∷ 0x85 ∷ 0x02 ∷ 0x00 ∷ 0x07 ∷ 0x00 ∷ 0xAA ∷ []) ∷ (0x84 ∷ 0x80 ∷ 0x41 ∷ 0x85 ∷ 0x01 ∷ 0x07 ∷ 0x00 ∷ 0xBB ∷ []) ∷ [])
     (saved 1 ∷ saved 2 ∷ [])
     -- M12, padded: 23, as document 02's A2 has it
-    ∷ arrives ((0x03 ∷ 0x80 ∷ 0x80 ∷ 0xC0 ∷ 0xAA ∷ []) ∷ []) (refusedWith 23 0 ∷ [])
+    ∷ arrives ((0x03 ∷ 0x80 ∷ 0x80 ∷ 0xC0 ∷ 0xAA ∷ []) ∷ []) (refusedAt 23 1 ∷ [])
     -- M13 n = 5: R1 = 8 one segment; R1 = R = 7 two, carrying 3 and 2. n = 2,048: R1 = R = 209 ten segments; 208 refused 18
     ∷ cuts five 8 8 0 (Made 0 1 8 (0x83 ∷ 0x80 ∷ 0xC0 ∷ five))
     ∷ cuts five 7 7 0 (Made 0 2 7 (0x83 ∷ 0x80 ∷ 0x41 ∷ 0x85 ∷ 1 ∷ 2 ∷ 3 ∷ []))

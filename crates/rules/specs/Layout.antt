@@ -1,12 +1,12 @@
 -- Section 'Layout of a segment'. s is a parameter's octets, x one of them; a position counts from 0.
 use Prim.Native.Nat.{ℕ, _+_, _*_, _/_, _%_}
-use mathlib.Core.Bool.{Bool, not, _&&_, Bool·beq}
+use mathlib.Core.Bool.{Bool, not, _&&_}
 use mathlib.Core.List.{List, [], _∷_, _++_}
 use lib.Dec.{eqb, leb, ltb}
 use lib.ListN.{length, take, getD}
 use Rattle.rules.specs.General.{if_then_else_}
 use Rattle.rules.specs.Numbers.{parameterMost, addressMost}
-use Rattle.rules.specs.Refusals.{Check, _when_}
+use Rattle.rules.specs.Refusals.{Check, _when_, _for_over_, _for_under_, _for_unlike_, _blaming_}
 use Rattle.rules.specs.Registry.{kindOf}
 use Rattle.rules.specs.declared.Entry.{Entry}
 use Rattle.rules.specs.declared.Heading.{Heading}
@@ -105,17 +105,17 @@ fieldsAt g s at =
 unfoldable pub fieldsOf : List Entry → List ℕ → Fields
 fieldsOf registry s = fieldsAt (headingOf registry s) s (originAt s)
 
--- Refusals 4 to 9 and 23, by the octets from left to right
+-- Refusals 4 to 9 and 23, by the octets from left to right. All but 4 blame an octet (document 02, A5)
 
--- the parameter ends before this octet
-abbrev pub isMissing : List ℕ → ℕ → Bool
-isMissing s at = leb (length s) at
+-- 5: the parameter has fewer octets than its fields need here; the octet at fault is the first that is not there
+abbrev pub cutBefore : List ℕ → ℕ → Check
+cutBefore s least = 5 for length s under least blaming length s
 
 -- octets 1a, 2 and 3a must have extension 1
 abbrev pub lastChecks : List ℕ → ℕ → List Check
 lastChecks s at =
-    5 when isMissing s at
-    ∷ 6 when not (isLast (octet s at))
+    cutBefore s (at + 1)
+    ∷ 6 for octet s at under 128 blaming at
     ∷ []
 
 -- octet 1a has a zero upper part: the context is padded (document 02, A2)
@@ -124,28 +124,34 @@ isPadded s = eqb (octet s 1 % 128) 0
 
 -- 23 stands at octet 1a, after 6
 abbrev pub secondChecks : List ℕ → List Check
-secondChecks s = lastChecks s 1 ++ (23 when isPadded s ∷ [])
+secondChecks s = lastChecks s 1 ++ (23 when isPadded s blaming 1 ∷ [])
 
 -- 8 stands at the context's last octet, after 23
+abbrev pub lastOfContext : List ℕ → ℕ
+lastOfContext s = if has1a s then 1 else 0
+
 abbrev pub contextChecks : List Entry → List ℕ → List Check
 contextChecks registry s =
-    (5 when isMissing s 0 ∷ [])
+    (cutBefore s 1 ∷ [])
     ++ (if has1a s then secondChecks s else [])
-    ++ (8 when eqb (kindOf registry (contextOf s)) 0 ∷ [])
+    ++ (8 when eqb (kindOf registry (contextOf s)) 0 blaming lastOfContext s ∷ [])
 
 -- 7 stands at octet 3, once 3a, if present, has passed 5 and 6: 3a is absent exactly when the indicator is 1 and remaining is 0
+abbrev pub count3a : Bool → ℕ
+count3a present = if present then 1 else 0
+
 abbrev pub sequenceChecks : List ℕ → ℕ → List Check
 sequenceChecks s at =
-    (5 when isMissing s at ∷ [])
+    (cutBefore s (at + 1) ∷ [])
     ++ (if has3a (octet s at) then lastChecks s (at + 1) else [])
-    ++ (7 when Bool·beq (has3a (octet s at)) (isUnsegmented (isNew (octet s at)) (remainingOf (octet s at))) ∷ [])
+    ++ (7 for count3a (has3a (octet s at)) unlike count3a (not (isUnsegmented (isNew (octet s at)) (remainingOf (octet s at)))) blaming at ∷ [])
 
 -- 9 stands at the length octet; an address is 0 to 20 octets
 abbrev pub addressChecks : List ℕ → ℕ → List Check
 addressChecks s at =
-    5 when isMissing s at
-    ∷ 9 when ltb addressMost (octet s at)
-    ∷ 5 when ltb (length s) (pastAddress s at)
+    cutBefore s (at + 1)
+    ∷ 9 for octet s at over addressMost blaming at
+    ∷ cutBefore s (pastAddress s at)
     ∷ []
 
 abbrev pub addressesChecks : ℕ → List ℕ → ℕ → List Check
@@ -153,7 +159,7 @@ addressesChecks kind s at = if hasAddresses kind then addressChecks s at ++ addr
 
 unfoldable pub readingChecks : List Entry → List ℕ → List Check
 readingChecks registry s =
-    (4 when ltb parameterMost (length s) ∷ [])
+    (4 for length s over parameterMost ∷ [])
     ++ contextChecks registry s
     ++ lastChecks s (at2 s)
     ++ sequenceChecks s (at3 s)

@@ -5,7 +5,7 @@
 --   Records and other house octets              Records, Registry; of a trace: Trace
 --   Receiving                                   Places (the key), Receiving (the lines), Delivery, Sweep (clock and release), Opening
 --   Sending                                     Sending
---   Refusal numbers                             Refusals (how a number is found), each call's own list beside the call; Soundness (what sound means)
+--   Refusal numbers                             Refusals (how a number and a position are found), each call's own list beside the call; Soundness (what sound means); Blame (what a position tells)
 --   What the contracts have to say              Promises
 --   Examples on each side                       Examples; the replay program: Trace (the walk), Lines (what it prints); beside it, the program records: Listing
 pub mod General
@@ -16,6 +16,7 @@ pub mod Layout
 pub mod Records
 pub mod Places
 pub mod Soundness
+pub mod Blame
 pub mod Receiving
 pub mod Delivery
 pub mod Sweep

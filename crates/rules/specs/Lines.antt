@@ -4,9 +4,10 @@ use mathlib.Core.Bool.{Bool}
 use mathlib.Core.List.{List, [], _∷_, _++_}
 use lib.Dec.{eqb, ltb}
 use Rattle.rules.specs.General.{if_then_else_}
+use Rattle.rules.specs.Refusals.{nowhere}
 use Rattle.rules.specs.Records.{delivered, lost, recordsFrom}
 use Rattle.rules.specs.Calls.{Answer}
-use Rattle.rules.specs.Trace.{Event, Opening, Segment, Clock, Release, Sight, Observer, watching}
+use Rattle.rules.specs.Trace.{Event, Opening, Segment, Clock, Release, Observer, watching}
 use Rattle.rules.specs.declared.Record.{Record}
 
 -- the names, in ASCII: open, segment, clock, release, stop
@@ -31,6 +32,13 @@ decimal x = digitsOf 20 x
 abbrev pub field : ℕ → List ℕ
 field x = 32 ∷ decimal x
 
+-- a dash where there is nothing to say: in the place of one number
+abbrev pub dash : List ℕ
+dash = 45 ∷ []
+
+abbrev pub numberUnless : ℕ → ℕ → List ℕ
+numberUnless none x = if eqb x none then dash else decimal x
+
 -- the octets of the records of a kind
 abbrev pub octetsOf : ℕ → List Record → ℕ
 octetsOf kind [] = 0
@@ -44,8 +52,20 @@ lineFields name refusal records gained missed = name ++ field refusal ++ field r
 abbrev pub recordsBy : Answer → List Record
 recordsBy a = recordsFrom (a .records) (a .lent .report)
 
+-- the position of the octet at fault, or a dash; only a segment's line has it (document 02, A5)
+abbrev pub positionWord : ℕ → List ℕ
+positionWord at = numberUnless nowhere at
+
+abbrev pub positionField : Event → ℕ → List ℕ
+positionField (Opening timer time) at = []
+positionField (Segment association s) at = 32 ∷ positionWord at
+positionField (Clock time) at = []
+positionField (Release association) at = []
+
 unfoldable pub eventFields : Event → Answer → List ℕ
-eventFields e a = lineFields (nameOf e) (a .refusal) (a .records) (octetsOf delivered (recordsBy a)) (octetsOf lost (recordsBy a))
+eventFields e a =
+    lineFields (nameOf e) (a .refusal) (a .records) (octetsOf delivered (recordsBy a)) (octetsOf lost (recordsBy a))
+    ++ positionField e (a .position)
 
 abbrev pub stopIf : Bool → List ℕ
 stopIf stops = if stops then stopLine else []

@@ -1,24 +1,22 @@
 -- What the program records prints: for each event replay's fields, its number and its decision; and a line for each record, for what an opening drops and for what is held at the end.
 use Prim.Native.Nat.{ℕ, _+_, _/_, _%_}
-use mathlib.Core.Bool.{Bool}
 use mathlib.Core.List.{List, [], _∷_, _++_}
 use lib.Dec.{eqb, ltb}
 use lib.ListN.{take}
-use Rattle.rules.specs.General.{if_then_else_, those}
+use Rattle.rules.specs.General.{if_then_else_}
 use Rattle.rules.specs.Records.{delivered}
 use Rattle.rules.specs.Places.{isOpen}
-use Rattle.rules.specs.Sweep.{lossOf, lossesBy}
+use Rattle.rules.specs.Sweep.{lossesBy}
 use Rattle.rules.specs.Calls.{Decided, Undecided, As}
 use Rattle.rules.specs.Trace.{isOpening, Sight, Observer, watching}
-use Rattle.rules.specs.Lines.{decimal, field, stopIf, counted, eventFields, recordsBy}
+use Rattle.rules.specs.Lines.{field, dash, numberUnless, stopIf, counted, eventFields, recordsBy}
 use Rattle.rules.specs.declared.Address.{Address}
-use Rattle.rules.specs.declared.Key.{Key}
 use Rattle.rules.specs.declared.Place.{Place}
 use Rattle.rules.specs.declared.Record.{Record}
 use Rattle.rules.specs.declared.Decision.{Decision}
 use Rattle.rules.specs.declared.Decision.the-variants.{Refused, Saved, Delivered, Lost}
 
--- the words, in ASCII: delivered, lost, dropped, held, refused, saved; a dash where there is nothing to say
+-- the words, in ASCII: delivered, lost, dropped, held, refused, saved
 abbrev pub deliveredWord : List ℕ
 deliveredWord = 100 ∷ 101 ∷ 108 ∷ 105 ∷ 118 ∷ 101 ∷ 114 ∷ 101 ∷ 100 ∷ []
 
@@ -37,9 +35,6 @@ refusedWord = 114 ∷ 101 ∷ 102 ∷ 117 ∷ 115 ∷ 101 ∷ 100 ∷ []
 abbrev pub savedWord : List ℕ
 savedWord = 115 ∷ 97 ∷ 118 ∷ 101 ∷ 100 ∷ []
 
-abbrev pub dash : List ℕ
-dash = 45 ∷ []
-
 -- an octet in hex, two digits, and octets one after the other
 abbrev pub hexDigit : ℕ → ℕ
 hexDigit x = if ltb x 10 then 48 + x else 55 + x
@@ -50,7 +45,7 @@ hexOf (x ∷ xs) = hexDigit (x / 16) ∷ hexDigit (x % 16) ∷ hexOf xs
 
 -- an unsegmented parameter has no reference
 abbrev pub referenceWord : ℕ → List ℕ
-referenceWord reference = if eqb reference 255 then dash else decimal reference
+referenceWord reference = numberUnless 255 reference
 
 -- an address: as many octets as its length says, and never their number's value
 abbrev pub addressWord : Address → List ℕ

@@ -7,7 +7,7 @@ use lib.ListN.{length, take, drop}
 use Rattle.octets.specs.Splice.{splice}
 use Rattle.rules.specs.General.{if_then_else_}
 use Rattle.rules.specs.Numbers.{dataMost, storeLeast, placeStart}
-use Rattle.rules.specs.Refusals.{Check, _when_, judged}
+use Rattle.rules.specs.Refusals.{Check, _when_, _for_under_, judgedAt, nowhere}
 use Rattle.rules.specs.Layout.{isUnsegmented, fieldsOf, readingChecks}
 use Rattle.rules.specs.Records.{delivered, lost, recordLength, zeroFilled, recordsOctets}
 use Rattle.rules.specs.Places.{freePlace, placeOf, lowestFree, isAt, numberOf, placeAt, putPlace}
@@ -21,6 +21,7 @@ use Rattle.rules.specs.declared.Remaining.{Remaining}
 use Rattle.rules.specs.declared.Heading.{Heading}
 use Rattle.rules.specs.declared.Fields.{Fields}
 use Rattle.rules.specs.declared.Record.{Record}
+use Rattle.rules.specs.declared.Fault.{Fault}
 use Rattle.rules.specs.declared.Found.{Found}
 use Rattle.rules.specs.declared.Part.the-variants.{OfParameter, OfStore}
 use Rattle.rules.specs.declared.Line.{Line}
@@ -156,8 +157,8 @@ lineAt t key g n =
 abbrev pub lentChecks : Bool → ℕ → ℕ → List Check
 lentChecks sound store report =
     1 when not sound ∷
-    2 when ltb store storeLeast ∷
-    3 when ltb report recordLength ∷ []
+    2 for store under storeLeast ∷
+    3 for report under recordLength ∷ []
 
 -- where the line takes it: line 3 applies and no place is free
 abbrev pub takingChecks : Line → List Place → List Check
@@ -183,7 +184,7 @@ pub record Reception : Type 0 where
 abbrev pub receptionOf : Table → List ℕ → Effect → Reception
 receptionOf t report e =
     record {
-      answer = record { table = withPlaces t (e .places); decision = e .decision; refusal = 0; records = length (e .records) };
+      answer = record { table = withPlaces t (e .places); decision = e .decision; position = nowhere; refusal = 0; records = length (e .records) };
       store = e .store;
       report = splice report 0 (recordsOctets (e .records));
       made = e .records;
@@ -198,10 +199,11 @@ receivedAt t store report association s =
     receptionOf t report
     (effectOf (lineAt t key (f .heading) (length octets)) t store key f octets place (placeAt (t .places) place) (lowestFree (t .places)))
 
--- a refusal returns its number, the table as it came, zero records, and no lent octet is altered
-abbrev pub unreceived : Table → List ℕ → List ℕ → ℕ → Reception
-unreceived t store report n = record { answer = record { table = t; decision = Refused; refusal = n; records = 0 }; store = store; report = report; made = [] }
+-- a refusal returns its number and position, the table as it came, zero records, and no lent octet is altered
+abbrev pub unreceived : Table → List ℕ → List ℕ → Fault → Reception
+unreceived t store report x =
+    record { answer = record { table = t; decision = Refused; position = x .position; refusal = x .number; records = 0 }; store = store; report = report; made = [] }
 
 unfoldable pub segment : Table → List ℕ → List ℕ → ℕ → List ℕ → Reception
 segment t store report association s =
-    judged (segmentChecks t store report association s) (unreceived t store report) (receivedAt t store report association s)
+    judgedAt (segmentChecks t store report association s) (unreceived t store report) (receivedAt t store report association s)

@@ -7,7 +7,7 @@ use lib.ListN.{length, take, drop}
 use Rattle.octets.specs.Splice.{splice}
 use Rattle.rules.specs.General.{if_then_else_}
 use Rattle.rules.specs.Numbers.{dataMost, segmentsMost, parameterMost, addressMost, referenceMost, instructionMost}
-use Rattle.rules.specs.Refusals.{Check, _when_, judged}
+use Rattle.rules.specs.Refusals.{Check, _when_, _for_over_, _for_under_, judged}
 use Rattle.rules.specs.Registry.{kindOf}
 use Rattle.rules.specs.Layout.{contextOctets, addressesOctets, parameterOctets}
 use Rattle.rules.specs.Soundness.{sound}
@@ -70,11 +70,11 @@ abbrev pub requestChecks : Bool → ℕ → Request → ℕ → ℕ → ℕ → 
 requestChecks sound kind q o d n =
     1 when not sound ∷
     8 when eqb kind 0 ∷
-    14 when ltb dataMost n ∷
+    14 for n over dataMost ∷
     9 when (ltb addressMost o || ltb addressMost d) ∷
     15 when (eqb kind 1 && ltb 0 (o + d)) ∷
-    17 when ltb instructionMost (q .instruction) ∷
-    16 when ltb referenceMost (q .reference .0) ∷ []
+    17 for q .instruction over instructionMost ∷
+    16 for q .reference .0 over referenceMost ∷ []
 
 -- the cut of n octets behind a header of h
 abbrev pub cutChecks : ℕ → Request → ℕ → List Check
@@ -86,7 +86,7 @@ cutChecks h q n =
 -- the lent area and the segment, by their lengths
 abbrev pub fitChecks : ℕ → ℕ → List Check
 fitChecks area n =
-    20 when ltb area n ∷ []
+    20 for area under n ∷ []
 
 -- Sending: 1, 8, 14, 9, 15, 17, 16, 18, 19, 20
 unfoldable pub sendingChecks : Table → Request → List ℕ → List ℕ → List ℕ → List ℕ → List Check

@@ -1,12 +1,12 @@
 -- Document 02, A1: totals for each lessee, kept beside the table in a summary of 512 numbers. They are 64 rows of eight, and stand column by column: all rows' marks, all rows'
 -- associations, then the totals, segments and octets of each: taken, delivered, lost.
 use Prim.Native.Nat.{ℕ, zero, suc, _+_, _*_, _^_}
-use mathlib.Core.Bool.{Bool, true, false, not, _&&_, _||_}
+use mathlib.Core.Bool.{Bool, true, not, _&&_, _||_}
 use mathlib.Core.List.{List, [], _∷_, _++_}
 use lib.Dec.{eqb, leb}
 use lib.ListN.{length, getD, set, replicate}
 use Rattle.rules.specs.General.{if_then_else_, every}
-use Rattle.rules.specs.Refusals.{Check, _when_, judged}
+use Rattle.rules.specs.Refusals.{Check, _when_, judged, judgedAt}
 use Rattle.rules.specs.Layout.{fieldsOf}
 use Rattle.rules.specs.Records.{delivered}
 use Rattle.rules.specs.Places.{isOpen, isAt}
@@ -183,8 +183,8 @@ segmentChecksWith t m store report association s =
 
 unfoldable pub segmentWith : Table → List ℕ → List ℕ → List ℕ → ℕ → List ℕ → Counted Reception
 segmentWith t m store report association s =
-    judged (segmentChecksWith t m store report association s)
-    (λ n. counting m (unreceived t store report n))
+    judgedAt (segmentChecksWith t m store report association s)
+    (λ x. counting m (unreceived t store report x))
     (counting (segmentSums t m store report association s) (receivedAt t store report association s))
 
 -- CLOCK and RELEASE: 22 is the last. Several losses of one association are judged by their sum

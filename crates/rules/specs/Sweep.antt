@@ -1,13 +1,13 @@
 -- Section 'Receiving', the clock and the release: both lose every sequence that a test is for, in place order.
-use Prim.Native.Nat.{ℕ, _*_, _^_}
+use Prim.Native.Nat.{ℕ, _-_, _*_, _^_}
 use mathlib.Core.Bool.{Bool, not, _&&_}
 use mathlib.Core.List.{List, [], _∷_, _++_, map}
-use lib.Dec.{eqb, leb, ltb}
+use lib.Dec.{eqb, leb}
 use lib.ListN.{length}
 use Rattle.octets.specs.Splice.{splice}
 use Rattle.rules.specs.General.{if_then_else_, those}
 use Rattle.rules.specs.Numbers.{placeCount, elapsed}
-use Rattle.rules.specs.Refusals.{Check, _when_}
+use Rattle.rules.specs.Refusals.{Check, _when_, _for_over_, _for_under_}
 use Rattle.rules.specs.Records.{recordLength, recordsOctets, lost}
 use Rattle.rules.specs.Places.{isOpen, freePlace}
 use Rattle.rules.specs.Soundness.{sound}
@@ -63,12 +63,12 @@ isDue time timer p = isOpen p && leb timer (elapsed time (p .start))
 abbrev pub sweepChecks : Bool → ℕ → List Check
 sweepChecks sound report =
     1 when not sound ∷
-    3 when ltb report reportLeast ∷ []
+    3 for report under reportLeast ∷ []
 
 -- a step of 2^31 or more is refused
 abbrev pub stepChecks : ℕ → ℕ → List Check
 stepChecks time clock =
-    13 when leb (2 ^ 31) (elapsed time clock) ∷ []
+    13 for elapsed time clock over (2 ^ 31 - 1) ∷ []
 
 -- Clock: 1, 3, 13, and the summary's: Summary
 unfoldable pub clockChecks : Table → List ℕ → ℕ → List Check

@@ -95,6 +95,14 @@ pub struct Record {
     pub segments: u8,
 }
 
+// A refusal: its number, 0 for none, and the position of the octet at fault, or NOWHERE.
+pub const NOWHERE: u16 = 65535;
+
+pub struct Fault {
+    pub number: u8,
+    pub position: u16,
+}
+
 // What a parameter's octets 1 to 3a say, with the kind of its context. It is unsegmented where it is new and none remains.
 pub struct Heading {
     pub context: Context,
@@ -149,10 +157,11 @@ pub enum Decision {
     Lost(u8, Found),
 }
 
-// The answers of the calls. A refusal of 0 is none.
+// The answers of the calls. A refusal of 0 is none; a segment's has the position of the octet at fault too, or NOWHERE.
 pub struct Received {
     pub table: Table,
     pub decision: Decision,
+    pub position: u16,
     pub refusal: u8,
     pub records: u8,
 }

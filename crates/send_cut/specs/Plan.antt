@@ -6,7 +6,7 @@ use mathlib.Core.List.{[], _∷_}
 use lib.Dec.{leb, ltb}
 use Rattle.rules.specs.General.{if_then_else_}
 use Rattle.rules.specs.Numbers.{segmentsMost}
-use Rattle.rules.specs.Refusals.{_when_, judged}
+use Rattle.rules.specs.Refusals.{_when_, _for_over_, judged}
 use Rattle.rules.specs.Layout.{hasAddresses}
 use Rattle.rules.specs.Sending.{isSegmented, firstCarries, laterCarries, countOf, cutChecks}
 use Rattle.rules.specs.declared.Request.{Request}
@@ -45,7 +45,7 @@ segmentCount a b n = 1 + (n - a + (b - 1)) / b
 
 unfoldable pub segmentsPlan : ℕ → ℕ → ℕ → ℕ → Plan
 segmentsPlan a b n k =
-    judged (18 when ltb segmentsMost (segmentCount a b n) ∷ 19 when leb (segmentCount a b n) k ∷ []) NoCut
+    judged (18 for segmentCount a b n over segmentsMost ∷ 19 when leb (segmentCount a b n) k ∷ []) NoCut
     (Cut (record { count = segmentCount a b n; segmented = true; from = pieceFrom a b k; size = pieceSize a b k }))
 
 -- a cut that was made

@@ -10,7 +10,7 @@ use lib.ListN.{length, take, drop, length-append, length-take, length-drop}
 use lib.Seq.{take-all}
 use Rattle.octets.specs.Splice.{splice}
 use Rattle.rules.specs.General.{if_then_else_}
-use Rattle.rules.specs.Refusals.{Check, _when_, accepted, first, judged}
+use Rattle.rules.specs.Refusals.{Check, _for_under_, accepted, first, judged}
 use Rattle.rules.specs.Registry.{kindOf}
 use Rattle.rules.specs.Layout.{isUnsegmented, hasAddresses, contextOctets, sequenceOctets, addressesOctets, parameterOctets}
 use Rattle.rules.specs.Soundness.{sound}
@@ -162,7 +162,7 @@ sending-is t q o d whole area =
     let asks : List Check = requestChecks (sound t) kind q (length o) (length d) (length whole) in
     let cuts : List Check = cutChecks h q (length whole) in
     let octets : List ℕ = segmentOctets kind q o d whole in
-    let fits : List Check = 20 when ltb (length area) (length octets) ∷ [] in
+    let fits : List Check = 20 for length area under length octets ∷ [] in
     let made : Sending = record { answer = record { refusal = 0; count = countOf h q (length whole); length = length octets }; area = splice area 0 octets } in
     judged-append (asks ++ cuts) fits (unsent area) made
     ∙ judged-append asks cuts (unsent area) _

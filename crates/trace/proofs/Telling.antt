@@ -3,7 +3,7 @@ use Prim.Native.Nat.{ℕ, _+_, _≤_, _<_}
 use mathlib.Core.Path.{_≡_, refl, sym, ap, _∙_}
 use mathlib.Core.Bool.{Bool, true, false, not, _&&_, and-true, and-false, true≢false}
 use mathlib.Core.List.{List, [], _∷_, _++_}
-use borrow.Author.Tests.{eqb-true, leb-true, le-leb, lt-leb, ltb-true, ltb-false}
+use borrow.Author.Tests.{eqb-true, le-leb, lt-leb, ltb-true, ltb-false}
 use lib.Dec.{eqb, leb, ltb}
 use native.Mathlib.Omega.{arith}
 use lib.ListN.{length, take, drop, getD}
@@ -17,8 +17,7 @@ use Rattle.rules.specs.Trace.{Event, Opening, Segment, Clock, Release, Item, Re
 use Rattle.rules.specs.Layout.{octet}
 use Rattle.rules.specs.Lines.{recordsBy, eventFields, counted}
 use Rattle.rules.specs.Totalling.{headingLine, rowLines}
-use Rattle.rules.specs.declared.Place.{Place}
-use Rattle.trace_lines.specs.Printing.{fieldsFor}
+use Rattle.trace_lines.specs.Printing.{countsFor, fieldsFor}
 use Rattle.trace_items.proofs.Items.{item-by}
 use Rattle.trace_events.specs.Events.{Stored, stateWith, replayOf, stepOf}
 use Rattle.trace_events.specs.declared.Replay.{Replay}
@@ -86,8 +85,8 @@ module _ (held : Replay) (store : Stored) (lent : Lent) where
   answer e = stepOf held store lent e .answer
 
   -- an event's fields by its kind octet; an opening makes no records, so that any report does
-  fields-is : (e : Event) → fieldsFor (kindOf e) (answer e .refusal) (answer e .records) (lentAfter (replayOf held store lent) e (answer e) .report) ≡ eventFields e (answer e)
-  unfolding fieldsFor eventFields step
+  fields-is : (e : Event) → fieldsFor (kindOf e) (answer e .refusal) (answer e .position) (answer e .records) (lentAfter (replayOf held store lent) e (answer e) .report) ≡ eventFields e (answer e)
+  unfolding fieldsFor countsFor eventFields step
   fields-is (Opening timer time) = refl
   fields-is (Segment association s) = refl
   fields-is (Clock time) = refl

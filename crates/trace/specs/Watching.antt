@@ -49,7 +49,7 @@ firstIf Totals opens m = if opens then rowLines m else []
 
 -- .. and after it
 abbrev pub eventBy : Watcher → ℕ → List Place → Happening → List ℕ → List ℕ
-eventBy Lines events places h report = lines.lineFor (h .kind) (h .refusal) (h .records) report
+eventBy Lines events places h report = lines.lineFor (h .kind) (h .refusal) (h .position) (h .records) report
 eventBy Records events places h report = records.listingFor (counted events) h report places
 eventBy Totals events places h report = if eqb (h .kind) 32 then headingLine (counted events) (h .refusal) else []
 

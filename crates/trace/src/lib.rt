@@ -120,7 +120,14 @@ fn tell_event(
     ensures { λ r. ⌜ r ≤ 16384 ⌝ }
 {
     match which {
-        Watcher::Lines => trace_lines::put_line(out, h.kind, h.refusal, h.records, report),
+        Watcher::Lines => trace_lines::put_line(
+            out,
+            h.kind,
+            h.refusal,
+            h.position,
+            h.records,
+            report,
+        ),
         Watcher::Records => trace_records::put_event(out, next_event(events), h, report, places),
         Watcher::Totals => tell_heading(events, h, at, out),
     }

@@ -6,6 +6,7 @@ use lib.Dec.{ltb}
 use lib.ListN.{take}
 use Rattle.octets.specs.Splice.{splice}
 use Rattle.rules.specs.General.{if_then_else_}
+use Rattle.rules.specs.Refusals.{nowhere}
 use Rattle.rules.specs.Calls.{State, stateOf, Lent, Outcome, step}
 use Rattle.rules.specs.Trace.{Event, callOf, lentAfter}
 use Rattle.rules.specs.Trace as trace
@@ -42,10 +43,10 @@ replayOf held store lent =
 
 -- the answers of calls that decide nothing
 abbrev pub answerOpened : Opened → Received
-answerOpened o = record { table = o .table; decision = Refused; refusal = o .refusal; records = 0 }
+answerOpened o = record { table = o .table; decision = Refused; position = nowhere; refusal = o .refusal; records = 0 }
 
 abbrev pub answerSwept : Swept → Received
-answerSwept o = record { table = o .table; decision = Refused; refusal = o .refusal; records = o .records }
+answerSwept o = record { table = o .table; decision = Refused; position = nowhere; refusal = o .refusal; records = o .records }
 
 -- what an event does is the rules' own step
 abbrev pub stepOf : Replay → Stored → Lent → Event → Outcome
@@ -53,7 +54,14 @@ stepOf held store lent e = let r : trace.Replay = replayOf held store lent in st
 
 -- what the code answers of an outcome
 abbrev pub answerOf : Outcome → Received
-answerOf o = record { table = o .state .table; decision = decisionIn (o .answer .decided); refusal = o .answer .refusal; records = o .answer .records }
+answerOf o =
+    record {
+      table = o .state .table;
+      decision = decisionIn (o .answer .decided);
+      position = o .answer .position;
+      refusal = o .answer .refusal;
+      records = o .answer .records;
+    }
 
 pub record OfEvent (held : Replay) (store : Stored) (lent : Lent) (e : Event) (answer : Received) (store′ : Stored) (lent′ : Lent) : Type 0 where
   pub answered : answer ≡ answerOf (stepOf held store lent e)

@@ -32,6 +32,7 @@ fn open(held: Replay, m: &mut [u64; rules::SUMMARY], timer: u32, clock: u32) -> 
     Received {
         table,
         decision: Decision::Refused,
+        position: rules::NOWHERE,
         refusal: r.refusal,
         records: 0,
     }
@@ -61,6 +62,7 @@ fn swept(s: Swept) -> Received
     Received {
         table,
         decision: Decision::Refused,
+        position: rules::NOWHERE,
         refusal: s.refusal,
         records: s.records,
     }

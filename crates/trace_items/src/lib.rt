@@ -18,6 +18,7 @@ pub enum Event {
 // An event that happened: its kind, and its answer but for the table. A call that decides nothing has the decision of a refusal.
 pub struct Happening {
     pub decision: Decision,
+    pub position: u16,
     pub kind: u8,
     pub refusal: u8,
     pub records: u8,

@@ -6,9 +6,9 @@ ghost use lib.ListN.{length, take, drop};
 ghost use Rattle.octets.specs.Splice.{Wrote};
 ghost use Rattle.rules.specs.Records.{recordLength, recordFrom, recordsFrom};
 ghost use Rattle.rules.specs.Sweep.{reportLeast};
-ghost use Rattle.rules.specs.Lines.{decimal, field, octetsOf, stopIf};
+ghost use Rattle.rules.specs.Lines.{decimal, field, numberUnless, octetsOf, stopIf};
 ghost use Rattle.trace_lines.specs.Digits.{Left};
-ghost use Rattle.trace_lines.specs.Printing.{nameFor, fieldsFor, lineFor};
+ghost use Rattle.trace_lines.specs.Printing.{nameFor, countsMost, countsFor, fieldsMost, fieldsFor, lineFor};
 
 // One octet.
 pub fn put_octet(out: &mut [u8], at: usize, x: u8) -> usize
@@ -130,11 +130,11 @@ fn octets_in(report: &[u8], at: usize, kind: u8) -> u64
     octets::number2(report[at + 9], report[at + 10]) as u64
 }
 
-// An event's fields: its name, its refusal, and of the records that it made how many there are and their octets, delivered and lost.
-pub fn put_fields(out: &mut [u8], kind: u8, refusal: u8, records: u8, report: &[u8]) -> usize
+// What every event's line begins with: its name, its refusal, and of the records that it made how many there are and their octets, delivered and lost.
+fn put_counts(out: &mut [u8], kind: u8, refusal: u8, records: u8, report: &[u8]) -> usize
     requires { ⌜ (records ≤ 16) × (recordLength * records ≤ length (now report)) ⌝ }
-    ensures { λ r. ⌜ Wrote (now (out .entry)) 0 (fieldsFor kind refusal records (now (report .entry))) (now (out .exit)) r ⌝ }
-    ensures { λ r. ⌜ r ≤ 91 ⌝ }
+    ensures { λ r. ⌜ Wrote (now (out .entry)) 0 (countsFor kind refusal records (now (report .entry))) (now (out .exit)) r ⌝ }
+    ensures { λ r. ⌜ r ≤ countsMost ⌝ }
 {
     let n = records as usize;
     let gained = total(report, n, rules::DELIVERED);
@@ -146,13 +146,53 @@ pub fn put_fields(out: &mut [u8], kind: u8, refusal: u8, records: u8, report: &[
     put_field(out, d, missed)
 }
 
-// An event's line.
-pub fn put_line(out: &mut [u8], kind: u8, refusal: u8, records: u8, report: &[u8]) -> usize
-    requires { ⌜ (records ≤ 16) × (recordLength * records ≤ length (now report)) ⌝ }
-    ensures { λ r. ⌜ Wrote (now (out .entry)) 0 (lineFor kind refusal records (now (report .entry))) (now (out .exit)) r ⌝ }
-    ensures { λ r. ⌜ r ≤ 92 ⌝ }
+// A space, and a number, or a dash in the place of one.
+pub fn put_unless(out: &mut [u8], at: usize, none: u64, x: u64) -> usize
+    requires { ⌜ at ≤ 65000 ⌝ }
+    ensures { λ r. ⌜ Wrote (now (out .entry)) at (32 ∷ numberUnless none x) (now (out .exit)) r ⌝ }
+    ensures { λ r. ⌜ r ≤ at + 21 ⌝ }
 {
-    let end = put_fields(out, kind, refusal, records, report);
+    let word = put_octet(out, at, 32);
+    if x == none {
+        return put_octet(out, word, 45);
+    }
+    put_number(out, word, x)
+}
+
+// An event's fields: a segment's end with the position of the octet at fault.
+pub fn put_fields(
+    out: &mut [u8],
+    kind: u8,
+    refusal: u8,
+    position: u16,
+    records: u8,
+    report: &[u8],
+) -> usize
+    requires { ⌜ (records ≤ 16) × (recordLength * records ≤ length (now report)) ⌝ }
+    ensures { λ r. ⌜ Wrote (now (out .entry)) 0 (fieldsFor kind refusal position records (now (report .entry))) (now (out .exit)) r ⌝ }
+    ensures { λ r. ⌜ r ≤ fieldsMost ⌝ }
+{
+    let end = put_counts(out, kind, refusal, records, report);
+    if kind == 33 {
+        return put_unless(out, end, rules::NOWHERE as u64, position as u64);
+    }
+    end
+}
+
+// An event's line.
+pub fn put_line(
+    out: &mut [u8],
+    kind: u8,
+    refusal: u8,
+    position: u16,
+    records: u8,
+    report: &[u8],
+) -> usize
+    requires { ⌜ (records ≤ 16) × (recordLength * records ≤ length (now report)) ⌝ }
+    ensures { λ r. ⌜ Wrote (now (out .entry)) 0 (lineFor kind refusal position records (now (report .entry))) (now (out .exit)) r ⌝ }
+    ensures { λ r. ⌜ r ≤ fieldsMost + 1 ⌝ }
+{
+    let end = put_fields(out, kind, refusal, position, records, report);
     put_octet(out, end, 10)
 }
 

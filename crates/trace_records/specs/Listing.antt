@@ -1,5 +1,5 @@
 -- What is printed of an event, by its kind octet and its answer.
-use Prim.Native.Nat.{ℕ}
+use Prim.Native.Nat.{ℕ, _+_}
 use mathlib.Core.Bool.{Bool}
 use mathlib.Core.List.{List, [], _∷_, _++_}
 use lib.Dec.{eqb}
@@ -10,12 +10,16 @@ use Rattle.rules.specs.Listing.{droppedWord, heldWord, referenceWord, recordLin
 use Rattle.rules.specs.declared.Key.{Key}
 use Rattle.rules.specs.declared.Place.{Place}
 use Rattle.rules.specs.declared.Record.{Record}
-use Rattle.trace_lines.specs.Printing.{fieldsFor}
+use Rattle.trace_lines.specs.Printing.{fieldsMost, fieldsFor}
 use Rattle.trace_items.specs.declared.Happening.{Happening}
 
 -- the longest line of a record
 abbrev pub lineMost : ℕ
 lineMost = 239
+
+-- .. and of an event: behind replay's fields a number, a space, what became of it, and the line's end
+abbrev pub eventMost : ℕ
+eventMost = fieldsMost + 21 + 1 + 28 + 1
 
 -- a record's line, as it is written: what names the sequence, what is said of it; behind them the addresses
 abbrev pub namedFields : List ℕ → Key → List ℕ
@@ -25,7 +29,7 @@ abbrev pub countFields : Record → List ℕ
 countFields r = field (r .instruction) ++ field (r .cause) ++ field (r .segments) ++ field (r .octets)
 
 abbrev pub lineFor : ℕ → Happening → List ℕ → List ℕ
-lineFor number h report = numberedLine (fieldsFor (h .kind) (h .refusal) (h .records) report) number (h .refusal) (h .decision)
+lineFor number h report = numberedLine (fieldsFor (h .kind) (h .refusal) (h .position) (h .records) report) number (h .refusal) (h .decision)
 
 -- the line, the records, and what an opening drops
 abbrev pub listingFor : ℕ → Happening → List ℕ → List Place → List ℕ

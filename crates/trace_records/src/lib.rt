@@ -16,8 +16,8 @@ ghost use Rattle.rules.specs.Numbers.{placeCount};
 ghost use Rattle.rules.specs.Places.{isOpen};
 ghost use Rattle.rules.specs.Records.{recordLength, recordedAt, recordFrom, recordsFrom};
 ghost use Rattle.rules.specs.Sweep.{lossOf, reportLeast};
-ghost use Rattle.rules.specs.Listing.{hexDigit, hexOf, referenceWord, addressWord, recordLine, recordWord, recordLines, openLines, endWord, heldWord};
-ghost use Rattle.trace_records.specs.Listing.{lineMost, namedFields, countFields, lineFor, listingFor, endFor};
+ghost use Rattle.rules.specs.Listing.{hexDigit, hexOf, addressWord, recordLine, recordWord, recordLines, openLines, endWord, heldWord};
+ghost use Rattle.trace_records.specs.Listing.{lineMost, eventMost, namedFields, countFields, lineFor, listingFor, endFor};
 
 // The address that a record has at a position.
 fn address_in(l: &[u8], at: usize) -> Address
@@ -106,19 +106,6 @@ fn put_address(out: &mut [u8], at: usize, a: Address) -> usize
     put_hex(out, next, octets::part(&octets, 0, n))
 }
 
-// A space, and a reference or a dash.
-fn put_reference(out: &mut [u8], at: usize, reference: u8) -> usize
-    requires { ⌜ at ≤ 50000 ⌝ }
-    ensures { λ r. ⌜ Wrote (now (out .entry)) at (32 ∷ referenceWord reference) (now (out .exit)) r ⌝ }
-    ensures { λ r. ⌜ r ≤ at + 21 ⌝ }
-{
-    let next = trace_lines::put_octet(out, at, 32);
-    if reference == 255 {
-        return trace_lines::put_octet(out, next, 45);
-    }
-    trace_lines::put_number(out, next, reference as u64)
-}
-
 // A word, and what names a sequence but for its addresses.
 fn put_named(out: &mut [u8], at: usize, word: &[u8], key: Key) -> usize
     requires { ⌜ (at ≤ 10000) × (length (now word) ≤ 9) ⌝ }
@@ -128,7 +115,7 @@ fn put_named(out: &mut [u8], at: usize, word: &[u8], key: Key) -> usize
     let a = trace_lines::put_word(out, at, word);
     let b = trace_lines::put_field(out, a, key.association as u64);
     let c = trace_lines::put_field(out, b, key.context.0 as u64);
-    put_reference(out, c, key.reference.0)
+    trace_lines::put_unless(out, c, 255, key.reference.0 as u64)
 }
 
 // What a record says of its sequence: instruction, cause, segments and octets.
@@ -249,10 +236,10 @@ fn put_decision(out: &mut [u8], at: usize, refusal: u8, decision: Decision) -> u
 fn put_line(out: &mut [u8], number: u64, h: Happening, report: &[u8]) -> usize
     requires { ⌜ (h .records ≤ 16) × (recordLength * h .records ≤ length (now report)) ⌝ }
     ensures { λ r. ⌜ Wrote (now (out .entry)) 0 (lineFor number h (now (report .entry))) (now (out .exit)) r ⌝ }
-    ensures { λ r. ⌜ r ≤ 142 ⌝ }
+    ensures { λ r. ⌜ r ≤ eventMost ⌝ }
 {
     let decision = h.decision;
-    let a = trace_lines::put_fields(out, h.kind, h.refusal, h.records, report);
+    let a = trace_lines::put_fields(out, h.kind, h.refusal, h.position, h.records, report);
     let b = trace_lines::put_field(out, a, number);
     let c = trace_lines::put_octet(out, b, 32);
     let d = put_decision(out, c, h.refusal, decision);

@@ -33,7 +33,7 @@ abbrev walkWith : Replay → Received → ℕ → Bool → ℕ → Walk
 walkWith held a kind opens used =
     record {
       replay = record { registry = held .registry; length = held .length; table = a .table; begun = held .begun || opens };
-      met = met.Happens (record { decision = a .decision; kind = kind; refusal = a .refusal; records = a .records });
+      met = met.Happens (record { decision = a .decision; position = a .position; kind = kind; refusal = a .refusal; records = a .records });
       used = used;
     }
 

@@ -1,7 +1,7 @@
 -- A trace as the code walks over it: what the record at the front of an input does.
 use Prim.Native.Nat.{ℕ, _+_, _*_, _≤_}
 use mathlib.Core.Path.{_≡_}
-use mathlib.Core.Bool.{Bool, not, _||_}
+use mathlib.Core.Bool.{not, _||_}
 use mathlib.Core.List.{List, [], _∷_}
 use lib.Dec.{ltb}
 use lib.ListN.{length, take}
@@ -41,7 +41,14 @@ kindOf (Clock time) = 34
 kindOf (Release association) = 35
 
 abbrev pub happeningOf : Event → Outcome → Happening
-happeningOf e o = record { decision = decisionIn (o .answer .decided); kind = kindOf e; refusal = o .answer .refusal; records = o .answer .records }
+happeningOf e o =
+    record {
+      decision = decisionIn (o .answer .decided);
+      position = o .answer .position;
+      kind = kindOf e;
+      refusal = o .answer .refusal;
+      records = o .answer .records;
+    }
 
 abbrev pub metOf : Front → Met
 metOf Waiting = met.Waits

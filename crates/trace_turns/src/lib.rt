@@ -77,6 +77,7 @@ fn happens(
     let decision = a.decision;
     let h = Happening {
         decision,
+        position: a.position,
         kind,
         refusal: a.refusal,
         records: a.records,

@@ -10,6 +10,15 @@ fn number(n: u64) {
     io::print_decimal(STDOUT_FILENO, n);
 }
 
+// The position of an octet, if any.
+fn position(at: u16) {
+    if at == rules::NOWHERE {
+        io::write_all(STDOUT_FILENO, b" -");
+        return;
+    }
+    number(at as u64);
+}
+
 fn octet(x: u8) {
     io::print_hex(STDOUT_FILENO, x as u64, 2);
 }
@@ -33,12 +42,13 @@ fn fresh(m: &mut [u64; rules::SUMMARY], clock: u32) -> Table {
     r.table
 }
 
-// A segment: its refusal, its records, its record, and how many octets it delivers, with the first of them.
+// A segment: its refusal and the octet at fault, its records, its record, and how many octets it delivers, with the first of them.
 fn segment(t: Table, m: &mut [u64; rules::SUMMARY], store: &mut [u8], s: &[u8]) -> Table {
     let mut report = [0u8; rules::RECORD];
     let r = receiver::segment(t, m, store, &mut report, 9, s);
     io::write_all(STDOUT_FILENO, b"segment");
     number(r.refusal as u64);
+    position(r.position);
     number(r.records as u64);
     if r.records == 1 {
         octets(octets::part(&report, 0, rules::RECORD));
@@ -146,6 +156,24 @@ fn exchanges() {
     alone(b"A3 ", b"\x84\x80\xC0\x01\x09\x02\x07\x00\xAA");
 }
 
+// Document 02, A5: a parameter that ends before octet 3, in octet 1a, in an address; 6 at 1a and at 3a; 7 with 3a and without; 8 at 1a; 9 at both lengths; 23; and 4,
+// which blames no octet.
+fn faults() {
+    alone(b"A5 ", b"\x83\x80");
+    alone(b"A5 ", b"\x05");
+    alone(b"A5 ", b"\x84\x80\xC0\x03\x01\x02");
+    alone(b"A5 ", b"\x05\x05");
+    alone(b"A5 ", b"\x83\x80\x40\x05");
+    alone(b"A5 ", b"\x84\x80\x40\x85\x15");
+    alone(b"A5 ", b"\x84\x80\xC1");
+    alone(b"A5 ", b"\x05\x81");
+    alone(b"A5 ", b"\x84\x80\xC0\x15");
+    alone(b"A5 ", b"\x84\x80\xC0\x00\x15");
+    alone(b"A5 ", b"\x05\x80");
+    let long = [0x83u8; 256];
+    alone(b"A5 ", &long);
+}
+
 fn main() {
     alone(b"M1 ", b"");
     alone(b"M2 ", b"\x83\x80\xC0\xAA\xBB");
@@ -164,6 +192,7 @@ fn main() {
     );
     alone(b"M12 ", b"\x03\x80\x80\xC0\xAA");
     exchanges();
+    faults();
     sending(b"\x01\x02\x03\x04\x05", 8, 8, 0);
     sending(b"\x01\x02\x03\x04\x05", 7, 7, 0);
     sending(b"\x01\x02\x03\x04\x05", 7, 7, 1);

@@ -11,8 +11,8 @@ returns c = sym (addresses-none _ _ _ (ne-eqb _ _ (c .if1 .taken)))
 address-field-requires : tie.Need-address-field-requires
 address-field-requires c κs = search needs
 
-enum-known-n : tie.Need-enum-known-n
-enum-known-n c = search needs
+enum-known-e : tie.Need-enum-known-e
+enum-known-e c = search needs
 
 enum-known-origin : tie.Need-enum-known-origin
 enum-known-origin c = search needs
@@ -20,8 +20,8 @@ enum-known-origin c = search needs
 address-field-requires-2 : tie.Need-address-field-requires-2
 address-field-requires-2 c κs = search needs
 
-enum-known-n-2 : tie.Need-enum-known-n-2
-enum-known-n-2 c = search needs
+enum-known-e-2 : tie.Need-enum-known-e-2
+enum-known-e-2 c = search needs
 
 enum-known-destination : tie.Need-enum-known-destination
 enum-known-destination c = search needs
@@ -29,7 +29,7 @@ enum-known-destination c = search needs
 returns-2 : tie.Need-returns-2
 returns-2 c =
     let f = c .before .before .before in
-    sym (addresses-both _ _ _ (eq-eqb _ _ (f .before .if1 .left)) ∙ simp (sym (f .address-field .ensures) ∙ c .before .n .given .1))
+    sym (addresses-both _ _ _ (eq-eqb _ _ (f .before .if1 .left)) ∙ simp (sym (f .address-field .ensures) ∙ c .before .e .given .1))
 
 returns-3 : tie.Need-returns-3
 returns-3 c =
@@ -38,7 +38,7 @@ returns-3 c =
     let f = o .before .before in
     sym
     (addresses-both _ _ _ (eq-eqb _ _ (f .before .if1 .left))
-    ∙ simp (sym (f .address-field .ensures) ∙ o .origin .given .1, sym (g .address-field2 .ensures) ∙ c .before .n2 .given .1))
+    ∙ simp (sym (f .address-field .ensures) ∙ o .origin .given .1, sym (g .address-field2 .ensures) ∙ c .before .e2 .given .1))
 
 returns-4 : tie.Need-returns-4
 returns-4 c =
@@ -55,10 +55,10 @@ addresses-field-spec =
     (tie.spec
     returns
     address-field-requires
-    enum-known-n
+    enum-known-e
     enum-known-origin
     address-field-requires-2
-    enum-known-n-2
+    enum-known-e-2
     enum-known-destination
     returns-2
     returns-3

@@ -14,8 +14,8 @@ returns c = simp (lt-ltb _ _ (c .if1 .taken))
 context-field-requires : tie.Need-context-field-requires
 context-field-requires c κs = search needs
 
-enum-known-n : tie.Need-enum-known-n
-enum-known-n c = search needs
+enum-known-e : tie.Need-enum-known-e
+enum-known-e c = search needs
 
 enum-known-context : tie.Need-enum-known-context
 enum-known-context c = search needs
@@ -23,8 +23,8 @@ enum-known-context c = search needs
 last-field-requires : tie.Need-last-field-requires
 last-field-requires c κs = search needs
 
-enum-known-n-2 : tie.Need-enum-known-n-2
-enum-known-n-2 c = search needs
+enum-known-e-2 : tie.Need-enum-known-e-2
+enum-known-e-2 c = search needs
 
 enum-known-x : tie.Need-enum-known-x
 enum-known-x c = search needs
@@ -32,8 +32,8 @@ enum-known-x c = search needs
 sequence-field-requires : tie.Need-sequence-field-requires
 sequence-field-requires c κs = search needs
 
-enum-known-n-3 : tie.Need-enum-known-n-3
-enum-known-n-3 c = search needs
+enum-known-e-3 : tie.Need-enum-known-e-3
+enum-known-e-3 c = search needs
 
 enum-known-q : tie.Need-enum-known-q
 enum-known-q c = search needs
@@ -42,12 +42,16 @@ heading-requires : tie.Need-heading-requires
 heading-requires c κs = search needs
 
 rest-requires : tie.Need-rest-requires
-rest-requires c κs = search needs
+rest-requires c κs =
+    let q = c .before .before .before .before in
+    let l = q .before .before .before in
+    let x = l .before .before in
+    x .before .before .before .before .if1 .left
 
 returns-2 : tie.Need-returns-2
 returns-2 c =
     let f = c .before .before .before in
-    sym (reading-is _ _ (le-ltb _ _ (f .before .if1 .left)) ∙ simp (sym (f .context-field .ensures) ∙ c .before .n .given .1))
+    sym (reading-is _ _ (le-ltb _ _ (f .before .if1 .left)) ∙ simp (sym (f .context-field .ensures) ∙ c .before .e .given .1))
 
 returns-3 : tie.Need-returns-3
 returns-3 c =
@@ -56,7 +60,7 @@ returns-3 c =
     let f = x .before .before in
     sym
     (reading-is _ _ (le-ltb _ _ (f .before .if1 .left))
-    ∙ simp (sym (f .context-field .ensures) ∙ x .context .given .1, sym (l .last-field .ensures) ∙ c .before .n2 .given .1))
+    ∙ simp (sym (f .context-field .ensures) ∙ x .context .given .1, sym (l .last-field .ensures) ∙ c .before .e2 .given .1))
 
 returns-4 : tie.Need-returns-4
 returns-4 c =
@@ -70,7 +74,7 @@ returns-4 c =
     ∙ simp (
       sym (f .context-field .ensures) ∙ x .context .given .1,
       sym (l .last-field .ensures) ∙ y .x .given .1,
-      sym (q .sequence-field .ensures) ∙ c .before .n3 .given .1,
+      sym (q .sequence-field .ensures) ∙ c .before .e3 .given .1,
     ))
 
 returns-5 : tie.Need-returns-5
@@ -97,13 +101,13 @@ read-spec =
     (tie.spec
     returns
     context-field-requires
-    enum-known-n
+    enum-known-e
     enum-known-context
     last-field-requires
-    enum-known-n-2
+    enum-known-e-2
     enum-known-x
     sequence-field-requires
-    enum-known-n-3
+    enum-known-e-3
     enum-known-q
     heading-requires
     rest-requires

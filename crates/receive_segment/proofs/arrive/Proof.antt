@@ -4,6 +4,7 @@ use denote.Ref.{now}
 use lib.ListN.{length, drop, length-drop}
 use native.Mathlib.Omega.{arith}
 use Rattle.rules.specs.Numbers.{parameterMost}
+use Rattle.rules.specs.Refusals.{unplaced}
 use Rattle.receive_perform.specs.declared.Verdict.{Verdict}
 use Rattle.receive_segment.specs.Arrival.{arrival}
 use Rattle.receive_segment.proofs.Arriving.{leads-as, leads-of, refuses, refused-fits, is-full, is-carried, fit}
@@ -41,9 +42,9 @@ returns c =
           leads-as
           (is-full (a .t) store report (a .f) (now (i .tail .result)) (a .q) (a .held) (l .line-of .result) (s .pre .0 .1 .1) (s .pre .1 .1) (l .line-of .ensures .0) (l .line-of .ensures .1) (rw (c .before .before .before .starts .ensures) at (c .before .if1 .taken))
           ∙ ap (arrival (a .t) store report (a .q .key) (a .f)) (i .tail .ensures))
-          (refuses (a .t) (a .q .search .at) 10 (a .q .key) (a .held) _ (s .pre .1 .1) (c .refused .ensures) _ store report),
+          (refuses (a .t) (a .q .search .at) (unplaced 10) (a .q .key) (a .held) _ (s .pre .1 .1) (c .refused .ensures) _ store report),
       (
-        λ store h. refused-fits (a .t) (a .q .search .at) 10 (a .q .key) (a .held) _ (s .pre .1 .1) (c .refused .ensures) store _,
+        λ store h. refused-fits (a .t) (a .q .search .at) (unplaced 10) (a .q .key) (a .held) _ (s .pre .1 .1) (c .refused .ensures) store _,
         λ z. absurd (let n = ap (λ (w : Verdict). w .refusal) (c .refused .ensures) in omega (arith, n, z)),
       ),
     )

@@ -4,6 +4,7 @@ use native.Mathlib.Omega.{arith}
 use lib.ListN.{drop}
 use denote.Ref.{now}
 use borrow.Author.Tests.{not-true, not-false, lt-ltb, le-ltb}
+use Rattle.rules.specs.Refusals.{unplaced}
 use Rattle.rules.specs.Receiving.{informationOf}
 use Rattle.rules.specs.declared.Key.{Key}
 use Rattle.receive_segment.specs.Arrival.{arrival}
@@ -20,7 +21,7 @@ returns : tie.Need-returns
 returns c =
     let s = c .before .before .before in
     let a = s .args in
-    refused-verdict (a .t) (a .q .search .at) 1 (a .q .key) (a .held) _ (s .pre .1 .1 .1) (c .refused .ensures) (a .store) (a .report) (a .association) (now (a .s)) (λ z. omega arith)
+    refused-verdict (a .t) (a .q .search .at) (unplaced 1) (a .q .key) (a .held) _ (s .pre .1 .1 .1) (c .refused .ensures) (a .store) (a .report) (a .association) (now (a .s)) (λ z. omega arith)
     (λ st rp g h. segment-is (a .t) st rp (a .association) (now (a .s)) _ _ g h ∙ simp (sym (s .pre .0) ∙ not-true _ (c .before .if1 .taken)))
 
 refused-requires-2 : tie.Need-refused-requires-2
@@ -30,7 +31,7 @@ returns-2 : tie.Need-returns-2
 returns-2 c =
     let s = c .before .before .before .before in
     let a = s .args in
-    refused-verdict (a .t) (a .q .search .at) 2 (a .q .key) (a .held) _ (s .pre .1 .1 .1) (c .refused2 .ensures) (a .store) (a .report) (a .association) (now (a .s)) (λ z. omega arith)
+    refused-verdict (a .t) (a .q .search .at) (unplaced 2) (a .q .key) (a .held) _ (s .pre .1 .1 .1) (c .refused2 .ensures) (a .store) (a .report) (a .association) (now (a .s)) (λ z. omega arith)
     (λ st rp g h. segment-is (a .t) st rp (a .association) (now (a .s)) _ _ g h ∙ simp (sym (s .pre .0) ∙ not-false _ (c .before .before .if1 .left), lt-ltb _ _ (c .before .if2 .taken)))
 
 refused-requires-3 : tie.Need-refused-requires-3
@@ -40,7 +41,7 @@ returns-3 : tie.Need-returns-3
 returns-3 c =
     let s = c .before .before .before .before .before in
     let a = s .args in
-    refused-verdict (a .t) (a .q .search .at) 3 (a .q .key) (a .held) _ (s .pre .1 .1 .1) (c .refused3 .ensures) (a .store) (a .report) (a .association) (now (a .s)) (λ z. omega arith)
+    refused-verdict (a .t) (a .q .search .at) (unplaced 3) (a .q .key) (a .held) _ (s .pre .1 .1 .1) (c .refused3 .ensures) (a .store) (a .report) (a .association) (now (a .s)) (λ z. omega arith)
     (λ st rp g h. segment-is (a .t) st rp (a .association) (now (a .s)) _ _ g h ∙ simp (sym (s .pre .0) ∙ not-false _ (c .before .before .before .if1 .left), le-ltb _ _ (c .before .before .if2 .left), lt-ltb _ _ (c .before .if3 .taken)))
 
 enum-known-reading : tie.Need-enum-known-reading

@@ -1,31 +1,20 @@
--- One writer after another; the two sums are the records'.
 use native.Mathlib.Omega.{arith}
+use mathlib.Core.List.{append-nil}
+use borrow.Author.Tests.{eq-eqb, ne-eqb}
 use Rattle.octets.proofs.Splice.{wrote-then}
 use Rattle.trace_lines.specs.Printing.{fieldsFor}
 use borrow.Author.Needs.{needs}
 use Rattle.trace_lines.proofs.put_fields.Statement.{statement}
 use Rattle.trace_lines.proofs.put_fields.Tie as tie
 
-total-requires : tie.Need-total-requires
-total-requires c κs = search needs
+put-counts-requires : tie.Need-put-counts-requires
+put-counts-requires c κs = search needs
 
-total-requires-2 : tie.Need-total-requires-2
-total-requires-2 c κs = search needs
+cast-put-unless : tie.Need-cast-put-unless
+cast-put-unless c = search needs
 
-put-name-requires : tie.Need-put-name-requires
-put-name-requires c κs = search needs
-
-put-field-requires : tie.Need-put-field-requires
-put-field-requires c κs = search needs
-
-put-field-requires-2 : tie.Need-put-field-requires-2
-put-field-requires-2 c κs = search needs
-
-put-field-requires-3 : tie.Need-put-field-requires-3
-put-field-requires-3 c κs = search needs
-
-put-field-requires-4 : tie.Need-put-field-requires-4
-put-field-requires-4 c κs = search needs
+put-unless-requires : tie.Need-put-unless-requires
+put-unless-requires c κs = search needs
 
 same-length : tie.Need-same-length
 same-length c = search needs
@@ -33,26 +22,28 @@ same-length c = search needs
 returns : tie.Need-returns
 unfolding fieldsFor
 returns c =
-    let f4 = c .before .before in
-    let f3 = f4 .before .before .before .before in
-    let f2 = f3 .before .before .before .before in
-    let f1 = f2 .before .before .before .before in
-    let n = f1 .before .before .before .before in
-    let missed = n .before .before in
-    let gained = missed .before in
-    let w = wrote-then (wrote-then (wrote-then (n .put-name .ensures .0) (f1 .put-field .ensures .0)) (f2 .put-field2 .ensures .0)) (f3 .put-field3 .ensures .0) in
-    (rw (← gained .total .ensures, ← missed .total2 .ensures) (wrote-then w (f4 .put-field4 .ensures .0)), omega (arith, n .put-name .ensures .1, f1 .put-field .ensures .1, f2 .put-field2 .ensures .1, f3 .put-field3 .ensures .1, f4 .put-field4 .ensures .1))
+    let p = c .before .before in
+    let t = p .before .before in
+    let o = t .before .before .before in
+    (simp (eq-eqb _ _ (t .if1 .taken)) (wrote-then (o .put-counts .ensures .0) (p .put-unless .ensures .0)), omega (arith, o .put-counts .ensures .1, p .put-unless .ensures .1))
+
+same-length-2 : tie.Need-same-length-2
+same-length-2 c = search needs
+
+returns-2 : tie.Need-returns-2
+unfolding fieldsFor
+returns-2 c =
+    let o = c .before .before .before in
+    (simp (ne-eqb _ _ (c .if1 .left), append-nil) (o .put-counts .ensures .0), omega (arith, o .put-counts .ensures .1))
 
 pub put-fields-spec : {M : Type 1} → statement M
 put-fields-spec =
     tie.close
     (tie.spec
-    total-requires
-    total-requires-2
-    put-name-requires
-    put-field-requires
-    put-field-requires-2
-    put-field-requires-3
-    put-field-requires-4
+    put-counts-requires
+    cast-put-unless
+    put-unless-requires
     same-length
-    returns)
+    returns
+    same-length-2
+    returns-2)

@@ -19,8 +19,11 @@ cast-put-field-2 c = search needs
 put-field-requires-2 : tie.Need-put-field-requires-2
 put-field-requires-2 c κs = search needs
 
-put-reference-requires : tie.Need-put-reference-requires
-put-reference-requires c κs = search needs
+cast-put-unless : tie.Need-cast-put-unless
+cast-put-unless c = search needs
+
+put-unless-requires : tie.Need-put-unless-requires
+put-unless-requires c κs = search needs
 
 same-length : tie.Need-same-length
 same-length c = search needs
@@ -28,10 +31,10 @@ same-length c = search needs
 returns : tie.Need-returns
 returns c =
     let d = c .before .before in
-    let k = d .before .before .before .before in
+    let k = d .before .before .before .before .before in
     let b = k .before .before .before .before .before in
     let a = b .before .before .before .before .before in
-    (wrote-then (wrote-then (wrote-then (a .put-word .ensures) (b .put-field .ensures .0)) (k .put-field2 .ensures .0)) (d .put-reference .ensures .0), omega (arith, a .put-word .ensures .place, b .put-field .ensures .1, k .put-field2 .ensures .1, d .put-reference .ensures .1))
+    (wrote-then (wrote-then (wrote-then (a .put-word .ensures) (b .put-field .ensures .0)) (k .put-field2 .ensures .0)) (d .put-unless .ensures .0), omega (arith, a .put-word .ensures .place, b .put-field .ensures .1, k .put-field2 .ensures .1, d .put-unless .ensures .1))
 
 pub put-named-spec : {M : Type 1} → statement M
 put-named-spec =
@@ -42,6 +45,7 @@ put-named-spec =
     put-field-requires
     cast-put-field-2
     put-field-requires-2
-    put-reference-requires
+    cast-put-unless
+    put-unless-requires
     same-length
     returns)
