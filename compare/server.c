@@ -27,7 +27,7 @@
 #define STEP 512     /* octets that are compared at a time */
 #define BUFFER 131072
 
-enum call { OPENING, SEGMENT, CLOCK, RELEASE, DELIVERY, SENDING };
+enum call { OPENING, ARRIVAL, CLOCK, RELEASE, DELIVERY, SENDING };
 
 /* Now, and before the call. The area lent is the octets from GUARD on. */
 struct area {
@@ -163,17 +163,18 @@ static void make_opening(void)
     give_back(&summary);
 }
 
-static void make_segment(void)
+static void make_arrival(void)
 {
     egrynnol_table table;
     uint16_t association;
     take(&table, sizeof table);
+    uint32_t time = take_number();
     take(&association, sizeof association);
     uint8_t *p = lend(&parameter);
     egrynnol_summary *rows = lend_summary();
     uint8_t *s = lend(&store), *r = lend(&report);
     egrynnol_received answer =
-        egrynnol_segment(table, rows, s, store.length, r, report.length, association, p, parameter.length);
+        egrynnol_arrival(table, rows, s, store.length, r, report.length, time, association, p, parameter.length);
     give(&answer, sizeof answer);
     keep(&parameter);
     give_back(&summary);
@@ -239,7 +240,7 @@ static void make(int call)
 {
     switch (call) {
     case OPENING: make_opening(); break;
-    case SEGMENT: make_segment(); break;
+    case ARRIVAL: make_arrival(); break;
     case CLOCK: make_clock(); break;
     case RELEASE: make_release(); break;
     case DELIVERY: make_delivery(); break;

@@ -1,8 +1,8 @@
 /*
  * egrynnol.h - application transport of ITU-T Q.765 for signalling gateways
  *
- * Six calls: open a table, receive a segment, tick the clock, release an
- * association, take a delivery, cut data into segments. The library keeps no
+ * Six calls: open a table, receive a segment that arrives, tick the clock, release
+ * an association, take a delivery, cut data into segments. The library keeps no
  * state, allocates nothing and reads nothing but what it is handed. All it
  * knows is in the table and in the summary, which has the totals of each
  * association. The host holds both and hands them on from call to call.
@@ -15,9 +15,9 @@
  * For x86-64 Linux (the System V convention), and compilers that know gcc's
  * asm labels, as gcc and clang do. From C89 on, where <stdint.h> is there, and
  * from C++98 on. Link with -legrynnol. See egrynnol(3), and a page for each
- * function, as egrynnol_segment(3).
+ * function, as egrynnol_arrival(3).
  *
- * A call needs up to 9,500 octets of stack, its arguments included: measured,
+ * A call needs up to 15,200 octets of stack, its arguments included: measured,
  * not proved (docs/PERFORMANCE.md).
  *
  * WHAT THE HOST OWES. The library cannot check these:
@@ -55,10 +55,10 @@
 
 /* ---- Versions ---- */
 
-#define EGRYNNOL_VERSION_MAJOR 3
-#define EGRYNNOL_VERSION_MINOR 1
+#define EGRYNNOL_VERSION_MAJOR 4
+#define EGRYNNOL_VERSION_MINOR 0
 #define EGRYNNOL_VERSION_PATCH 0
-#define EGRYNNOL_VERSION_STRING "3.1.0"
+#define EGRYNNOL_VERSION_STRING "4.0.0"
 
 /* One number for #if: 1002003 is 1.2.3. */
 #define EGRYNNOL_VERSION \
@@ -67,9 +67,9 @@
 /* The interface: it changes with every layout, call or number in this file that
  * an older host would misread (docs/MIGRATION.md). It is part of the calls'
  * symbols, so that a host compiled against another one does not link. */
-#define EGRYNNOL_INTERFACE 3
+#define EGRYNNOL_INTERFACE 4
 
-/* The symbol of a call: EGRYNNOL_SYMBOL("segment") is "egrynnol_3_segment". It is
+/* The symbol of a call: EGRYNNOL_SYMBOL("arrival") is "egrynnol_4_arrival". It is
  * for dlsym; a host that links uses the calls by their names. */
 #define EGRYNNOL_SYMBOL(call) "egrynnol_" EGRYNNOL_TEXT(EGRYNNOL_INTERFACE) "_" call
 #define EGRYNNOL_TEXT(number) EGRYNNOL_TEXT_OF(number)
@@ -116,7 +116,7 @@ extern "C" {
 
 /* The least lengths of the lent areas. */
 #define EGRYNNOL_STORE 32768        /* store: place p has the octets from 2048 x p on */
-#define EGRYNNOL_REPORT_SEGMENT 53  /* report of egrynnol_segment: 1 record */
+#define EGRYNNOL_REPORT_ARRIVAL 901 /* report of egrynnol_arrival: 17 records; long enough for every call */
 #define EGRYNNOL_REPORT_SWEEP 848   /* report of egrynnol_clock and egrynnol_release: 16 records */
 
 /* egrynnol_decision.place of a loss where no sequence was open. */
@@ -162,7 +162,7 @@ enum egrynnol_cause {
     EGRYNNOL_CAUSE_RESTART = 3,   /* new, key open: what was saved; this segment starts the sequence anew */
     EGRYNNOL_CAUSE_REMAINING = 4, /* remaining over 9: the open sequence of that key, if any, and this */
     EGRYNNOL_CAUSE_OCTETS = 5,    /* saved plus this is over 2,048 octets: saved and this */
-    EGRYNNOL_CAUSE_TIMER = 6,     /* age is T or more, at a clock call */
+    EGRYNNOL_CAUSE_TIMER = 6,     /* age is T or more, at a clock call or by an arrival's time */
     EGRYNNOL_CAUSE_RELEASE = 7    /* the association was released */
 };
 
@@ -173,12 +173,16 @@ enum egrynnol_cause {
 /* ---- Refusal numbers ----
  * A refused call answers its number, the table as it came (opening: the all-zero
  * table), 0 records, and for sending a count of 0. No lent octet is altered, and
- * no number of the summary (opening: all of them are 0 then, too). */
+ * no number of the summary (opening: all of them are 0 then, too).
+ *
+ * With one exception: of an arrival, 4 to 10, 21 and 23 refuse the segment alone.
+ * The clock's work before it stands: table, summary and report are as that left
+ * them, and the records are the clock's. So look at records whatever the refusal. */
 enum egrynnol_refusal {
     EGRYNNOL_GOOD = 0,                      /* not refused */
     EGRYNNOL_REFUSAL_TABLE = 1,             /* table not sound, or summary not sound beside it */
     EGRYNNOL_REFUSAL_STORE = 2,             /* store under 32,768 */
-    EGRYNNOL_REFUSAL_REPORT = 3,            /* report area under 53 (segment) or 848 (clock, release) */
+    EGRYNNOL_REFUSAL_REPORT = 3,            /* report area under 901 (arrival) or 848 (clock, release) */
     EGRYNNOL_REFUSAL_PARAMETER = 4,         /* parameter over 255 */
     EGRYNNOL_REFUSAL_CUT = 5,               /* parameter ends inside its fields */
     EGRYNNOL_REFUSAL_EXTENSION = 6,         /* octet 1a, 2 or 3a has extension 0 */
@@ -287,18 +291,23 @@ typedef struct egrynnol_decision {
     uint8_t cause;              /* enum egrynnol_cause where lost */
 } egrynnol_decision;
 
-/* The answer to a segment. Refusals 5 to 9 and 23 blame an octet of the parameter,
- * and position says which, from 0 on: 5 the first octet that is missing, so the
- * parameter's length; 6 the octet whose extension is 0 (1a, 2 or 3a); 7 octet 3;
- * 8 the context's last octet; 9 the length octet that is over 20; 23 octet 1a.
- * With any other refusal, and with none, it is EGRYNNOL_NOWHERE. What stands
- * behind the octet of a 6, 8, 9 or 23 has no part in that refusal. */
+/* The answer to an arrival. Of the records in the report the first, as many as
+ * timeouts says, are the clock's; a record behind them is the segment's own. Where
+ * the segment is refused there is none of its own: records and timeouts are equal.
+ *
+ * Refusals 5 to 9 and 23 blame an octet of the parameter, and position says which,
+ * from 0 on: 5 the first octet that is missing, so the parameter's length; 6 the
+ * octet whose extension is 0 (1a, 2 or 3a); 7 octet 3; 8 the context's last octet;
+ * 9 the length octet that is over 20; 23 octet 1a. With any other refusal, and with
+ * none, it is EGRYNNOL_NOWHERE. What stands behind the octet of a 6, 8, 9 or 23 has
+ * no part in that refusal. */
 typedef struct egrynnol_received {
     egrynnol_table table;
     egrynnol_decision decision;
     uint8_t refusal;
-    uint8_t records;            /* 0 or 1 */
+    uint8_t records;            /* 0 to 17 */
     uint16_t position;          /* of the octet at fault, from 0; EGRYNNOL_NOWHERE where none is */
+    uint8_t timeouts;           /* 0 to 16: how many of the records are the clock's; they come first */
 } egrynnol_received;
 
 typedef struct egrynnol_swept {
@@ -359,18 +368,36 @@ egrynnol_opened egrynnol_opening(egrynnol_summary *summary,
                                  uint32_t timer, uint32_t clock) EGRYNNOL_CALL("opening");
 
 /*
- * egrynnol_segment - receives one parameter on an association.
+ * egrynnol_arrival - receives one parameter that arrives on an association at a time.
  *
- * Answers the table, what became of the segment, the refusal and the number of
- * records (0 or 1). A record goes to the front of report; the rest of report
- * stays. Of the store, only the octets of the newly saved information change,
- * in the stretch of the segment's own place; the final segment of a sequence is
- * saved too. After EGRYNNOL_LOST with cause 3 the segment is saved as the start
- * of a new sequence, in the same place.
+ * First it does the clock's work, as egrynnol_clock does with that time: the time is
+ * set, and every sequence of age T or more is lost, cause 6, with a record, in place
+ * order. Then it receives the segment, at the table and the summary which that
+ * leaves. So a sequence that is due is never joined with what comes too late, and
+ * nobody has to tick the clock before a segment. Tick it by egrynnol_clock where no
+ * segment comes, since else nothing is lost by the timer until one does.
  *
- * Of the summary, only the association's row changes: the segment counts as
- * taken, and what a record covers as delivered or as lost. A total to which the
- * segment adds nothing is not looked at.
+ * A segment that loses its own sequence by its time is looked at afterwards: a
+ * subsequent one is lost too, cause 1, and a new one begins a sequence and is no
+ * restart. A place that the clock's work frees can be taken by the same arrival. A
+ * sequence that the segment begins has the arrival's time as its start.
+ *
+ * Answers the table, what became of the segment, the refusal, the number of records
+ * (0 to 17), and how many of them are the clock's (timeouts, 0 to 16). Records go to
+ * the front of report, the clock's first, then the segment's own, if it has one:
+ *
+ *   for (n = 0; n < got.records; n++)
+ *       billed(egrynnol_record_at(report, n), n < got.timeouts);
+ *
+ * The rest of report stays. Of the store, only the octets of the newly saved
+ * information change, in the stretch of the segment's own place; the final segment
+ * of a sequence is saved too. After EGRYNNOL_LOST with cause 3 the segment is saved
+ * as the start of a new sequence, in the same place.
+ *
+ * Of the summary, the rows of the associations that lose something by the clock's
+ * work change, and the segment's own: it counts as taken, and what its record covers
+ * as delivered or as lost. A total to which the call adds nothing is not looked at;
+ * what the clock's work and the segment add to one total is judged by the sum.
  *
  * A sequence is told apart from others by association, context, originating
  * address, destination address and reference; an address is its octets and its
@@ -380,14 +407,23 @@ egrynnol_opened egrynnol_opening(egrynnol_summary *summary,
  * with 23, registered or not. So equal contexts have equal octets in all that is
  * accepted.
  *
- * Refusals, in this order: 1, 2, 3, 4; then 5 to 9 and 23 by the parameter's octets
- * from left to right (23 at octet 1a, after 6 and before 8); then 10, 21, 22.
+ * Refusals, in this order: 1, 2, 3, 13, and 22 of the clock's work; 4, then 5 to 9
+ * and 23 by the parameter's octets from left to right (23 at octet 1a, after 6 and
+ * before 8), then 10, 21; and 22 of both together.
+ *
+ * What a refusal leaves. By 1, 2, 3, 13 or 22, nothing is changed: table, summary,
+ * store and report are as they came, and there are no records. By 4 to 10, 21 or 23
+ * the segment alone is refused, judged after the clock's work, and that stands: the
+ * table, the summary and the report are as it left them, its time is set, and
+ * records and timeouts both say how many records it made. No octet of the store
+ * changes.
  */
-egrynnol_received egrynnol_segment(egrynnol_table table, egrynnol_summary *summary,
+egrynnol_received egrynnol_arrival(egrynnol_table table, egrynnol_summary *summary,
                                    uint8_t *store, size_t store_length,
-                                   uint8_t *report, size_t report_length, uint16_t association,
+                                   uint8_t *report, size_t report_length,
+                                   uint32_t time, uint16_t association,
                                    const uint8_t *parameter, size_t parameter_length)
-    EGRYNNOL_CALL("segment");
+    EGRYNNOL_CALL("arrival");
 
 /*
  * egrynnol_clock - sets the time and runs the timer.
@@ -397,7 +433,8 @@ egrynnol_received egrynnol_segment(egrynnol_table table, egrynnol_summary *summa
  *
  * Answers the table, the refusal and the number of records (0 to 16). Records go
  * to the front of report in place order; the rest of report stays. A step of 0 is
- * good. A sequence is lost by the timer only here, so call it often enough.
+ * good. A sequence is lost by the timer only here and by an arrival, which does the
+ * same with its own time; so call it where no segment comes, often enough.
  *
  * Of the summary, the rows of the associations that lose something change. Several
  * losses of one association are judged by their sum.
@@ -427,7 +464,7 @@ egrynnol_swept egrynnol_release(egrynnol_table table, egrynnol_summary *summary,
 /*
  * egrynnol_delivery - where the delivered data is.
  *
- * decision: that of the egrynnol_segment call that delivered. parameter, store:
+ * decision: that of the egrynnol_arrival call that delivered. parameter, store:
  * the same areas as in that call, as it left them. When: before the next call
  * with that table, see above; the place is free then, and a new sequence may
  * use it. egrynnol_take, below, has the pointer at once.
@@ -502,7 +539,7 @@ EGRYNNOL_CHECK(decision, sizeof(egrynnol_decision) == 32
 EGRYNNOL_CHECK(received, sizeof(egrynnol_received) == 1040
                && offsetof(egrynnol_received, table) == 0 && offsetof(egrynnol_received, decision) == 1000
                && offsetof(egrynnol_received, refusal) == 1032 && offsetof(egrynnol_received, records) == 1033
-               && offsetof(egrynnol_received, position) == 1034);
+               && offsetof(egrynnol_received, position) == 1034 && offsetof(egrynnol_received, timeouts) == 1036);
 EGRYNNOL_CHECK(swept, sizeof(egrynnol_swept) == 1004
                && offsetof(egrynnol_swept, table) == 0 && offsetof(egrynnol_swept, refusal) == 1000
                && offsetof(egrynnol_swept, records) == 1001);
@@ -580,22 +617,26 @@ typedef struct egrynnol_taken {
  *
  * The same arguments, at the same time. Any other decision has length 0.
  *
- * EXAMPLE: receive a parameter, hand on the table, take the delivery
+ * EXAMPLE: receive a parameter, hand on the table, read the records, take the delivery
  *
  *   #include <stdio.h>
  *   #include "egrynnol.h"
  *
  *   static egrynnol_table table;
  *   static egrynnol_summary summary;
- *   static uint8_t store[EGRYNNOL_STORE], report[EGRYNNOL_REPORT_SEGMENT];
+ *   static uint8_t store[EGRYNNOL_STORE], report[EGRYNNOL_REPORT_ARRIVAL];
  *
- *   void arrived(uint16_t association, const uint8_t *parameter, size_t length)
+ *   void arrived(uint32_t now, uint16_t association, const uint8_t *parameter, size_t length)
  *   {
- *       egrynnol_received got = egrynnol_segment(table, &summary,
- *           store, sizeof store, report, sizeof report, association, parameter, length);
+ *       egrynnol_received got = egrynnol_arrival(table, &summary, store, sizeof store,
+ *           report, sizeof report, now, association, parameter, length);
  *       egrynnol_taken data;
+ *       size_t n;
  *
  *       table = got.table;
+ *       for (n = 0; n < got.records; n++)
+ *           printf("%s: %u octets\n", n < got.timeouts ? "timed out" : "its own record",
+ *               egrynnol_record_at(report, n).octets);
  *       data = egrynnol_take(got.decision, parameter, length, store, sizeof store);
  *       printf("%s, %s: %lu octets\n", egrynnol_refusal_name(got.refusal),
  *           egrynnol_decision_name(got.decision.kind), (unsigned long)data.length);

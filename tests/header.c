@@ -2,8 +2,8 @@
  * The inline functions of egrynnol.h, which no proof covers: every name, every field of a record, the
  * header's length beside what sending writes, a delivery for every kind of decision, and the row of an
  * association. Also what the header says of the lengths of lent areas, of both addresses in places and in
- * records, of the octet that a refused parameter is refused for, and of a summary and a table that the host
- * hands over.
+ * records, of the octet that a refused parameter is refused for, of an arrival's two parts, and of a summary
+ * and a table that the host hands over.
  * Prints one line; the first thing that is not as expected ends it with status 1.
  */
 #include <stdio.h>
@@ -16,7 +16,7 @@
 
 static egrynnol_summary summary;
 static uint8_t store[EGRYNNOL_STORE];
-static uint8_t report[EGRYNNOL_REPORT_SWEEP];
+static uint8_t report[EGRYNNOL_REPORT_ARRIVAL + 1]; /* an octet more than any call writes */
 
 static void check(int truth, const char *what, int line)
 {
@@ -140,12 +140,22 @@ static void header_lengths(void)
     }
 }
 
-static egrynnol_received arrives_on(uint16_t association, egrynnol_table *table, const uint8_t *parameter, size_t length)
+static egrynnol_received arrives_at(uint32_t time, uint16_t association, egrynnol_table *table,
+                                    const uint8_t *parameter, size_t length)
 {
-    egrynnol_received received = egrynnol_segment(*table, &summary, store, sizeof store, report, sizeof report,
-                                                  association, parameter, length);
+    egrynnol_received received = egrynnol_arrival(*table, &summary, store, sizeof store, report, sizeof report,
+                                                  time, association, parameter, length);
 
     *table = received.table;
+    return received;
+}
+
+/* The same while no time passes: the clock's work is none. */
+static egrynnol_received arrives_on(uint16_t association, egrynnol_table *table, const uint8_t *parameter, size_t length)
+{
+    egrynnol_received received = arrives_at(table->clock, association, table, parameter, length);
+
+    CHECK(received.timeouts == 0 && received.records <= (received.refusal == EGRYNNOL_GOOD ? 1 : 0));
     return received;
 }
 
@@ -199,8 +209,8 @@ static void report_lengths(void)
     static const uint8_t whole[] = {0x83, 0x80, 0xC0, 0xAA};
     egrynnol_table table = opened_with(EGRYNNOL_KIND_1998, 3);
 
-    CHECK(egrynnol_segment(table, &summary, store, sizeof store, report, 52, 9, whole, sizeof whole).refusal == EGRYNNOL_REFUSAL_REPORT);
-    CHECK(egrynnol_segment(table, &summary, store, sizeof store, report, 53, 9, whole, sizeof whole).refusal == EGRYNNOL_GOOD);
+    CHECK(egrynnol_arrival(table, &summary, store, sizeof store, report, 900, 0, 9, whole, sizeof whole).refusal == EGRYNNOL_REFUSAL_REPORT);
+    CHECK(egrynnol_arrival(table, &summary, store, sizeof store, report, 901, 0, 9, whole, sizeof whole).refusal == EGRYNNOL_GOOD);
     CHECK(egrynnol_clock(table, &summary, report, 847, 1).refusal == EGRYNNOL_REFUSAL_REPORT);
     CHECK(egrynnol_clock(table, &summary, report, 848, 1).refusal == EGRYNNOL_GOOD);
     CHECK(egrynnol_release(table, &summary, report, 847, 9).refusal == EGRYNNOL_REFUSAL_REPORT);
@@ -215,6 +225,7 @@ struct bad {
     uint16_t position;
 };
 
+/* One after the other, while no time passes. */
 static void blames(egrynnol_table *table, const struct bad *list, size_t count)
 {
     size_t k;
@@ -246,6 +257,7 @@ static void positions(void)
     egrynnol_table table = opened_with(EGRYNNOL_KIND_2000, 4);
 
     CHECK(sizeof(egrynnol_received) == 1040 && offsetof(egrynnol_received, position) == 1034 && EGRYNNOL_NOWHERE == 65535);
+    CHECK(offsetof(egrynnol_received, timeouts) == 1036);
     blames(&table, one, sizeof one / sizeof one[0]);
     table = opened_with(EGRYNNOL_KIND_2000, 300);
     blames(&table, two, sizeof two / sizeof two[0]);
@@ -268,8 +280,9 @@ static void no_position(void)
     memset(&none, 0, sizeof none);
     table = opened_with(EGRYNNOL_KIND_1998, 3);
     CHECK(nowhere(arrives(&none, bad, 0), EGRYNNOL_REFUSAL_TABLE));
-    CHECK(nowhere(egrynnol_segment(table, &summary, store, EGRYNNOL_STORE - 1, report, sizeof report, 9, bad, 0), EGRYNNOL_REFUSAL_STORE));
-    CHECK(nowhere(egrynnol_segment(table, &summary, store, sizeof store, report, 52, 9, bad, 0), EGRYNNOL_REFUSAL_REPORT));
+    CHECK(nowhere(egrynnol_arrival(table, &summary, store, EGRYNNOL_STORE - 1, report, sizeof report, 0, 9, bad, 0), EGRYNNOL_REFUSAL_STORE));
+    CHECK(nowhere(egrynnol_arrival(table, &summary, store, sizeof store, report, 900, 0, 9, bad, 0), EGRYNNOL_REFUSAL_REPORT));
+    CHECK(nowhere(egrynnol_arrival(table, &summary, store, sizeof store, report, sizeof report, 0x80000000u, 9, bad, 0), EGRYNNOL_REFUSAL_STEP));
     CHECK(nowhere(arrives(&table, long_one, sizeof long_one), EGRYNNOL_REFUSAL_PARAMETER));
     CHECK(arrives(&table, long_one, sizeof long_one - 1).position == 1);
     CHECK(nowhere(arrives(&table, whole, sizeof whole), EGRYNNOL_GOOD));
@@ -526,6 +539,166 @@ static void handed_over(void)
     CHECK(summary.delivered_octets[0] == EGRYNNOL_TOTAL_MOST + 1);
 }
 
+/* ---- An arrival's two parts ---- */
+
+static const uint8_t due_first[] = {0x83, 0x81, 0x41, 0x85, 0xAA}, due_last[] = {0x83, 0x80, 0x00, 0x85, 0xBB, 0xCC};
+static const uint8_t in_one[] = {0x83, 0x80, 0xC0, 0xDD};
+
+/* A table with the first segment of a sequence of association 9 in place 0, at 0; T is 100. The report is all 5A. */
+static egrynnol_table with_one_open(void)
+{
+    egrynnol_table table = opened_with(EGRYNNOL_KIND_1998, 3);
+
+    CHECK(arrives(&table, due_first, sizeof due_first).decision.kind == EGRYNNOL_SAVED);
+    memset(report, 0x5A, sizeof report);
+    return table;
+}
+
+/* The same with all sixteen places. */
+static egrynnol_table with_all_open(void)
+{
+    uint8_t first[] = {0x83, 0x80, 0x41, 0x80, 0xAA};
+    egrynnol_table table = opened_with(EGRYNNOL_KIND_1998, 3);
+
+    for (; first[3] < 0x80 + EGRYNNOL_PLACES; first[3]++)
+        CHECK(arrives(&table, first, sizeof first).decision.kind == EGRYNNOL_SAVED);
+    memset(report, 0x5A, sizeof report);
+    return table;
+}
+
+/* Whether an answer has so many records, so many of them the clock's, and the report nothing behind them. */
+static int reported(egrynnol_received received, unsigned records, unsigned timeouts)
+{
+    size_t k;
+
+    for (k = records * EGRYNNOL_RECORD; k < sizeof report; k++)
+        if (report[k] != 0x5A)
+            return 0;
+    return received.records == records && received.timeouts == timeouts;
+}
+
+/* Whether record n is a loss by this cause, of a segment with so many octets. */
+static int lost_by(size_t n, unsigned cause, unsigned octets)
+{
+    egrynnol_record record = egrynnol_record_at(report, n);
+
+    return record.kind == EGRYNNOL_KIND_LOST && record.cause == cause && record.segments == 1 && record.octets == octets;
+}
+
+/* A segment that comes when its own sequence is due: a tick before, a last one and a first one. */
+static void own_timeout(void)
+{
+    egrynnol_table table = with_one_open();
+    egrynnol_received received = arrives_at(99, 9, &table, due_last, sizeof due_last);
+
+    CHECK(received.decision.kind == EGRYNNOL_DELIVERED_STORE && reported(received, 1, 0));
+    CHECK(egrynnol_record_at(report, 0).kind == EGRYNNOL_KIND_DELIVERED && table.clock == 99);
+
+    table = with_one_open();
+    received = arrives_at(100, 9, &table, due_last, sizeof due_last);
+    CHECK(received.decision.kind == EGRYNNOL_LOST && received.decision.place == EGRYNNOL_NO_PLACE);
+    CHECK(reported(received, 2, 1) && lost_by(0, EGRYNNOL_CAUSE_TIMER, 1) && lost_by(1, EGRYNNOL_CAUSE_NOT_OPEN, 2));
+    CHECK(egrynnol_record_at(report, 0).instruction == 1 && egrynnol_record_at(report, 1).instruction == 0);
+    CHECK(table.clock == 100 && table.places[0].mark == 0 && row_says(0, 2, 3, 0, 0, 2, 3));
+
+    table = with_one_open();
+    received = arrives_at(100, 9, &table, due_first, sizeof due_first);
+    CHECK(received.decision.kind == EGRYNNOL_SAVED && received.decision.place == 0);
+    CHECK(reported(received, 1, 1) && lost_by(0, EGRYNNOL_CAUSE_TIMER, 1) && row_says(0, 2, 2, 0, 0, 1, 1));
+    CHECK(table.places[0].start == 100 && table.places[0].segments == 1 && table.places[0].octets == 1);
+}
+
+/* Seventeen records, and a full table that an arrival empties to take a place of. */
+static void all_timeouts(void)
+{
+    egrynnol_table table = with_all_open();
+    egrynnol_received received = arrives_at(100, 9, &table, in_one, sizeof in_one);
+    size_t n;
+
+    CHECK(received.decision.kind == EGRYNNOL_DELIVERED_PARAMETER && reported(received, 17, 16));
+    for (n = 0; n < EGRYNNOL_PLACES; n++)
+        CHECK(lost_by(n, EGRYNNOL_CAUSE_TIMER, 1) && egrynnol_record_at(report, n).reference == n);
+    CHECK(egrynnol_record_at(report, 16).kind == EGRYNNOL_KIND_DELIVERED && row_says(0, 17, 17, 1, 1, 16, 16));
+
+    table = with_all_open();
+    received = arrives_at(99, 10, &table, due_first, sizeof due_first);
+    CHECK(received.refusal == EGRYNNOL_REFUSAL_FULL && reported(received, 0, 0) && table.clock == 99);
+    received = arrives_at(100, 10, &table, due_first, sizeof due_first);
+    CHECK(received.decision.kind == EGRYNNOL_SAVED && received.decision.place == 0 && reported(received, 16, 16));
+    CHECK(table.places[0].start == 100 && table.places[0].key.association == 10 && table.places[1].mark == 0);
+}
+
+/* What a refusal of the segment alone leaves: the clock's work, with its record, and no octet of the store. */
+static void stands_beside(const uint8_t *parameter, size_t length, uint16_t association, unsigned refusal)
+{
+    egrynnol_table table = with_one_open();
+    egrynnol_received received;
+    uint16_t k;
+
+    for (k = 1; k < EGRYNNOL_ROWS; k++)
+        CHECK(arrives_on((uint16_t)(100 + k), &table, in_one, sizeof in_one).refusal == EGRYNNOL_GOOD);
+    memset(report, 0x5A, sizeof report);
+    memset(store, 0x5A, sizeof store);
+    received = arrives_at(100, association, &table, parameter, length);
+    CHECK(received.refusal == refusal && received.decision.kind == EGRYNNOL_REFUSED && reported(received, 1, 1));
+    CHECK(lost_by(0, EGRYNNOL_CAUSE_TIMER, 1) && table.clock == 100 && table.places[0].mark == 0);
+    CHECK(row_says(0, 1, 1, 0, 0, 1, 1) && egrynnol_row_of(&summary, 200) == EGRYNNOL_ROWS);
+    for (k = 0; k < EGRYNNOL_PLACES; k++)
+        CHECK(store[k * EGRYNNOL_DATA] == 0x5A && store[k * EGRYNNOL_DATA + 1] == 0x5A);
+}
+
+static void refused_alone(void)
+{
+    static const struct bad list[] = {
+        {{0x83}, 1, 5, 1}, {{0x83, 0x00}, 2, 6, 1}, {{0x83, 0x80, 0xC1}, 3, 7, 2}, {{0x85}, 1, 8, 0}, {{0x03, 0x80}, 2, 23, 1}};
+    static const uint8_t long_one[EGRYNNOL_PARAMETER + 1] = {0x83, 0x80, 0xC0};
+    size_t k;
+
+    for (k = 0; k < sizeof list / sizeof list[0]; k++)
+        stands_beside(list[k].octets, list[k].length, 9, list[k].refusal);
+    stands_beside(long_one, sizeof long_one, 9, EGRYNNOL_REFUSAL_PARAMETER);
+    stands_beside(in_one, sizeof in_one, 200, EGRYNNOL_REFUSAL_ROW);
+}
+
+/* What a refusal of the whole leaves: all as it came. */
+static void undone(egrynnol_received received, const egrynnol_summary *before, unsigned refusal)
+{
+    CHECK(nowhere(received, refusal) && received.decision.kind == EGRYNNOL_REFUSED && reported(received, 0, 0));
+    CHECK(received.table.clock == 0 && received.table.places[0].mark == 1 && received.table.places[0].octets == 1);
+    CHECK(memcmp(before, &summary, sizeof summary) == 0);
+}
+
+/* The order: 1, 2, 3, 13, the clock's 22; then what reading refuses; and 22 of both last. */
+static void refused_whole(void)
+{
+    static const uint8_t unended[] = {0x83, 0x00};
+    egrynnol_table table = with_one_open(), none = table;
+    egrynnol_summary before = summary;
+
+    none.timer = 0;
+    undone(egrynnol_arrival(none, &summary, store, 0, report, 0, 0x80000000u, 9, unended, 2), &before, EGRYNNOL_REFUSAL_TABLE);
+    undone(egrynnol_arrival(table, &summary, store, 0, report, 0, 0x80000000u, 9, unended, 2), &before, EGRYNNOL_REFUSAL_STORE);
+    undone(egrynnol_arrival(table, &summary, store, sizeof store, report, 0, 0x80000000u, 9, unended, 2), &before, EGRYNNOL_REFUSAL_REPORT);
+    undone(egrynnol_arrival(table, &summary, store, sizeof store, report, sizeof report, 0x80000000u, 9, unended, 2), &before,
+           EGRYNNOL_REFUSAL_STEP);
+
+    summary.lost_octets[0] = EGRYNNOL_TOTAL_MOST;
+    before = summary;
+    undone(egrynnol_arrival(table, &summary, store, sizeof store, report, sizeof report, 100, 9, unended, 2), &before,
+           EGRYNNOL_REFUSAL_TOTAL);
+    summary.lost_octets[0] = EGRYNNOL_TOTAL_MOST - 2;
+    before = summary;
+    undone(egrynnol_arrival(table, &summary, store, sizeof store, report, sizeof report, 100, 9, due_last, sizeof due_last), &before,
+           EGRYNNOL_REFUSAL_TOTAL);
+    CHECK(arrives_at(100, 9, &table, unended, sizeof unended).refusal == EGRYNNOL_REFUSAL_EXTENSION);
+    CHECK(summary.lost_octets[0] == EGRYNNOL_TOTAL_MOST - 1);
+
+    table = with_one_open();
+    summary.lost_octets[0] = EGRYNNOL_TOTAL_MOST - 3;
+    CHECK(arrives_at(100, 9, &table, due_last, sizeof due_last).refusal == EGRYNNOL_GOOD);
+    CHECK(summary.lost_octets[0] == EGRYNNOL_TOTAL_MOST);
+}
+
 /* The calls are functions with addresses, whatever their symbols are. */
 static void addresses(void)
 {
@@ -549,7 +722,11 @@ int main(void)
     rows_by_hand();
     rows_by_calls();
     handed_over();
+    own_timeout();
+    all_timeouts();
+    refused_alone();
+    refused_whole();
     addresses();
-    printf("inline functions, positions, addresses and summaries: as expected\n");
+    printf("inline functions, positions, addresses, summaries and arrivals: as expected\n");
     return 0;
 }

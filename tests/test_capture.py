@@ -78,27 +78,29 @@ context 1998 10    # 1 parameter, taken as of 1998: addresses cannot be read in 
 # T: a capture does not tell it; 15000 ticks are 15.000 s here, and Q.765 has 10 to 18 s.
 open 15000 0
 
-segment 9 83 81 41 85 AA    # frame 1
-segment 9 83 80 00 85 BB    # frame 2
-clock 750
-segment 300 84 80 41 85 02 00 07 00 AA    # frame 3
-segment 300 03 80 80 41    # frame 3
+segment 0 9 83 81 41 85 AA    # frame 1
+segment 0 9 83 80 00 85 BB    # frame 2
+segment 750 300 84 80 41 85 02 00 07 00 AA    # frame 3
+segment 750 300 03 80 80 41    # frame 3
 # frame 4 is 500 ticks earlier than one before it: the clock stays
-segment 300 84 80 00 85 02 00 07 00 BB    # frame 4
-clock 1750
-segment 9 8A 82 42 87 05 02    # frame 5
+segment 750 300 84 80 00 85 02 00 07 00 BB    # frame 4
+segment 1750 9 8A 82 42 87 05 02    # frame 5
 release 9    # frame 6, REL
 clock 2750
 release 77    # frame 7, RSC
 # frame 9 is not read to its end: the capture has cut it, or tshark cannot read it; parameters may be missing
-clock 5750
-segment 12 83    # frame 10
+segment 5750 12 83    # frame 10
 """
 
 
 def lines_from(pdml, tick="0.001", timer=15000):
     messages = [message for packet in capture.packets_of(io.BytesIO(pdml)) for message in capture.messages_of(packet)]
     return list(capture.trace_lines("T", messages, decimal.Decimal(tick), timer))
+
+
+def times(lines):
+    """The times of a trace, one after the other, of segments and of the clock's lines."""
+    return [int(line.split()[1]) for line in lines if line.startswith(("clock", "segment"))]
 
 
 def recorded():
@@ -120,20 +122,35 @@ class Recorded(unittest.TestCase):
     def test_ticks_and_timer(self):
         lines = lines_from(recorded(), "1", 10)
         self.assertIn("open 10 0", lines)
-        self.assertEqual([line for line in lines if line.startswith("clock")], ["clock 1", "clock 2", "clock 5"])
+        self.assertEqual(times(lines), [0, 0, 0, 0, 0, 1, 2, 5])
+        self.assertEqual([line for line in lines if line.startswith("clock")], ["clock 2"])
 
     def test_long_pauses(self):
         """A step of 2^31 ticks or more is made in steps that are none; the clock runs round."""
         for days in (100000, 10 ** 7):
             later = recorded().replace(b'value="106.000000000"', b'value="%d.250000000"' % (100 + days * 86400))
-            clocks = [int(line.split()[1]) for line in lines_from(later) if line.startswith("clock")]
-            self.assertLess(len(clocks), 10)
+            clocks = times(lines_from(later))
+            self.assertLess(len(clocks), 14)
             self.assertEqual(clocks[-1], days * 86400000 % 2 ** 32)
             steps = [(after - before) % 2 ** 32 for before, after in zip(clocks, clocks[1:])]
-            self.assertTrue(all(0 < step < 2 ** 31 for step in steps) and sum(steps) >= 2 ** 32)
+            self.assertTrue(all(step < 2 ** 31 for step in steps) and sum(steps) >= 2 ** 32)
         later = recorded().replace(b'value="106.000000000"', b'value="5000100.250000000"')
-        clocks = [line for line in lines_from(later) if line.startswith("clock")]
-        self.assertEqual(clocks[-3:], ["clock %d" % ((2750 + 2 ** 31 - 1) % 2 ** 32), "clock %d" % ((2750 + 2 * (2 ** 31 - 1)) % 2 ** 32), "clock %d" % (5000000000 % 2 ** 32)])
+        self.assertEqual([line.split("#")[0].rstrip() for line in lines_from(later)[-3:]],
+                         ["clock %d" % ((2750 + 2 ** 31 - 1) % 2 ** 32), "clock %d" % ((2750 + 2 * (2 ** 31 - 1)) % 2 ** 32), "segment %d 12 83" % (5000000000 % 2 ** 32)])
+
+    def test_times(self):
+        """A segment has its own, and needs no line of the clock before it; a release has none, and gets one where time has passed since."""
+        def message(frame, time, kind, *parameters):
+            return capture.Message(frame, decimal.Decimal(time), 7, kind, ("1", "2"), list(parameters), True)
+
+        whole = b"\x83\x80\xc0"
+        for messages, lines in (([message(1, 0, APM, whole), message(2, 5, APM, whole, whole), message(3, 5, REL)], ["segment 0 7 83 80 C0", "segment 5 7 83 80 C0", "segment 5 7 83 80 C0", "release 7"]),
+                                ([message(1, 0, APM, whole), message(2, 5, REL), message(3, 9, REL, whole)], ["segment 0 7 83 80 C0", "clock 5", "release 7", "segment 9 7 83 80 C0", "release 7"]),
+                                ([message(1, 0, APM, whole), message(2, 5, APM, None), message(3, 4, APM, whole)], ["segment 0 7 83 80 C0", "segment 4 7 83 80 C0"]),
+                                ([message(1, 0, APM, whole), message(2, 2 ** 32, APM, whole)], ["segment 0 7 83 80 C0", "clock 2147483647", "clock 4294967294", "segment 0 7 83 80 C0"]),
+                                ([message(1, 0, APM, whole), message(2, 2 ** 31, REL)], ["segment 0 7 83 80 C0", "clock 2147483647", "clock 2147483648", "release 7"])):
+            found = [line.split("#")[0].rstrip() for line in capture.trace_lines("T", messages, decimal.Decimal(1), 10)]
+            self.assertEqual([line for line in found if line.startswith(("segment", "clock", "release"))], lines)
 
     def test_more_contexts_than_a_table_has(self):
         messages = [capture.Message(k, decimal.Decimal(0), 1, APM, ("1", "2"), [bytes([128 + k, 0x80, 0xC0])], True) for k in [*range(1, 12), 0, 11]]

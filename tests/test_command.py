@@ -34,7 +34,7 @@ FAULTS = re.compile("Traceback|Exception|fault of its own|Fatal Python")
 REPLAYING = (["replay"], ["records"], ["records", "--csv"], ["records", "--json"], ["totals"], ["totals", "--csv"], ["explain"])
 ONE_FILE = (["totals", "--csv"],)  # of these, those that take no more than one file
 TRACE = run("encode", example("origins")).out
-LONG = run("encode", data=b"context 1998 3\n" + b"open 100 0\nsegment 9 83 81 41 85 AA\nsegment 9 83 80 00 85 BB\n" * 8000).out
+LONG = run("encode", data=b"context 1998 3\n" + b"open 100 0\nsegment 0 9 83 81 41 85 AA\nsegment 0 9 83 80 00 85 BB\n" * 8000).out
 
 
 def head_of(words):
@@ -93,7 +93,7 @@ class Statuses(Folder):
         self.assertEqual(run("replay", data=b"\xff\xfeo\0p\0")[::2], (1, "standard input: this is text in UTF-16: save it as UTF-8\n"))
 
     def test_not_read(self):
-        for words in REPLAYING + (["encode"], ["decode"], ["from-pcap"]):
+        for words in REPLAYING + (["encode"], ["decode"], ["upgrade"], ["from-pcap"]):
             ran = run(*words, self.path("none"))
             self.assertEqual(ran.status, 2)
             self.assertEqual(ran.err, "%s: No such file or directory\n" % self.path("none"))
@@ -110,7 +110,7 @@ class Statuses(Folder):
         self.assertEqual(run("totals", "--csv", data=b"\x22\0").out, head_of(["totals", "--csv"]))
 
     def test_wrong_use(self):
-        for words in ([], ["foo"], ["--foo"], ["-"], ["encode", "--text"], ["decode", "a", "b"], ["replay", "--csv"], ["records", "--csv", "--json"],
+        for words in ([], ["foo"], ["--foo"], ["-"], ["encode", "--text"], ["decode", "a", "b"], ["upgrade", "a", "b"], ["upgrade", "--csv"], ["replay", "--csv"], ["records", "--csv", "--json"],
                       ["explain", "--text", "--octets"], ["totals", "--json"], ["totals", "--csv", "a", "b"], ["from-pcap"], ["from-pcap", "--tick", "0", "x"], ["from-pcap", "--tick", "nan", "x"],
                       ["from-pcap", "--timer", "1000001", "x"], ["replay", "-o"], ["replay", "--te"]):
             ran = run(*words)
@@ -193,7 +193,7 @@ class Streams(Folder):
 
     def test_no_file_gets_the_number_of_a_closed_stream(self):
         """What is said on standard error must not land in the file that is written."""
-        octets = self.path("octets", b"\x22\0\0\0\7" + b"\x21\0\x09\1\xaa" + b"\x5a" * 254)
+        octets = self.path("octets", b"\x22\0\0\0\7" + b"\x21\0\0\0\7\0\x09\1\xaa" + b"\x5a" * 254)
         text = run("decode", octets).out
         for closed in ("2>&-", "<&- 2>&-", "<&- >&- 2>&-"):
             self.assertEqual(self.shell('"$TOOL" decode "$PLACE/octets" -o "$PLACE/out" ' + closed).status, 0)
@@ -393,12 +393,17 @@ class Programs(Folder):
         self.assertEqual(self.with_program("replay", "exec <&-; sleep 0.1; echo stop", "replay", data=LONG)[:2], (3, b"stop\n"))
 
     def test_nonsense(self):
-        for line in ("event 1", "open 0 0 0 0", "segment 0 0 0 0 1 -", "segment 6 0 0 0 2 refused 6", "open 0 0 0 0 - 1 -", "open 12 0 0 0 0 1 refused 12", "open 0 0 0 0 1 -\nsegment 0 0 0 0 2 saved 0",
-                     "open 0 0 0 0 1 -\nsegment 6 0 0 0 2 refused 6", "open 0 0 0 0 1 -\nsegment 6 0 0 0 x 2 refused 6", "open 0 0 0 0 1 -\nsegment 6 0 0 0 -1 2 refused 6",
-                     "open 0 0 0 0 1 -\nsegment 0 0 0 0 1 2 saved 0", "open 0 0 0 0 1 -\nsegment 6 0 0 0 %s 2 refused 6" % ("9" * 5000), "open 0 0 0 0 1 -\nopen 0 0 0 0 2 -\nopen 0 0 0 0 3 -", "delivered 1 2", "\\377\\376", "stop", "held 1 2 3",
-                     "delivered 9 3 5 1 0 2 2 - -", "open 0 0 0 0 1 -\ndelivered 9 3 5 1 0 2 2 -", "open 0 0 0 0 1 -\ndelivered 9 4 5 1 0 2 2 07 0a",
-                     "open 0 0 0 0 1 -\ndelivered 9 4 5 1 0 2 2 07 070", "open 0 0 0 0 1 -\nlost 9 4 5 1 1 2 2 07 07 07",
-                     "open 0 0 0 0 1 refused 5", "open 5 0 0 0 1 -", "open 0 0 0 0 %s -" % ("9" * 5000)):
+        opened = "open 0 0 0 0 1 -\n"
+        for line in ("event 1", "open 0 0 0 0", "segment 0 0 0 0 1 -", "segment 6 0 0 0 2 refused 6", "open 0 0 0 0 - 1 -", "open 12 0 0 0 0 1 refused 12", opened + "segment 0 0 0 0 - 2 saved 0",
+                     opened + "segment 6 0 0 0 2 0 refused 6", opened + "segment 6 0 0 0 x 2 0 refused 6", opened + "segment 6 0 0 0 -1 2 0 refused 6", opened + "segment 6 0 0 0 1 2 - refused 6",
+                     opened + "segment 0 0 0 0 1 2 0 saved 0", opened + "segment 6 0 0 0 %s 2 0 refused 6" % ("9" * 5000), opened + "open 0 0 0 0 2 -\nopen 0 0 0 0 3 -", "delivered 1 2", "\\377\\376", "stop", "held 1 2 3",
+                     "delivered 9 3 5 1 0 2 2 - -", opened + "delivered 9 3 5 1 0 2 2 -", opened + "delivered 9 3 5 1 0 2 2 - -", opened + "segment 0 1 2 0 - 2 0 delivered\ndelivered 9 4 5 1 0 2 2 07 0a",
+                     opened + "segment 0 1 2 0 - 2 0 delivered\ndelivered 9 4 5 1 0 2 2 07 070", opened + "segment 0 1 0 2 - 2 0 lost\nlost 9 4 5 1 1 2 2 07 07 07",
+                     "open 0 0 0 0 1 refused 5", "open 5 0 0 0 1 -", "open 0 0 0 0 1 0 -", "open 0 0 0 0 %s -" % ("9" * 5000),
+                     # records that are neither the clock's nor the segment's own, or in another order
+                     opened + "segment 0 1 0 2 - 2 0 saved 0", opened + "segment 0 1 0 2 - 2 1 lost", opened + "segment 0 0 0 0 - 2 0 delivered", opened + "segment 8 1 0 2 0 2 0 refused 8", opened + "segment 8 0 0 0 0 2 1 refused 8",
+                     opened + "segment 0 0 0 0 - 2 %s saved 0" % ("9" * 19), opened + "segment 0 2 0 2 - 2 1 lost\nlost 9 4 5 1 1 1 1 - -", opened + "segment 0 1 0 1 - 2 1 saved 0\nlost 9 4 5 1 7 1 1 - -",
+                     opened + "segment 0 1 0 1 - 2 0 lost\nlost 9 4 5 1 6 1 1 - -", opened + "segment 0 0 0 0 - 2 0 saved 0\nlost 9 4 5 1 6 1 1 - -", opened + "segment 8 1 0 1 0 2 1 refused 8\nlost 9 4 5 1 6 1 1 - -\nlost 9 4 5 1 6 1 1 - -"):
             for words in (["explain"], ["records", "--json"]):
                 ran = self.with_program("records", "cat >/dev/null; printf '%s\\n'" % line, *words)
                 self.assertEqual(ran.status, 2, line)
@@ -415,7 +420,7 @@ class Programs(Folder):
         """It must not look like the end of the trace: nothing is told as held."""
         ours, theirs = os.pipe()
         os.set_blocking(ours, False)
-        os.write(theirs, TRACE[:12 + 259])
+        os.write(theirs, TRACE[:12 + 263])
         it = self.start("records", stdin=ours)
         out, err = it.communicate(timeout=60)
         self.assertEqual((it.returncode, err), (2, b"standard input: Resource temporarily unavailable\n"))
@@ -428,7 +433,7 @@ class Programs(Folder):
         for words in (["totals"], ["totals", "--csv"]):
             ours, theirs = os.pipe()
             os.set_blocking(ours, False)
-            os.write(theirs, TRACE[:12 + 259])
+            os.write(theirs, TRACE[:12 + 263])
             it = self.start(*words, stdin=ours)
             out, err = it.communicate(timeout=60)
             self.assertEqual((it.returncode, err), (2, b"standard input: Resource temporarily unavailable\n"))
@@ -485,12 +490,12 @@ class TextOrOctets(Folder):
         for octets, text in ((b"context 1998 3\n", True), (b"  open 1 1", True), (b"# why\n", True), (b"# why\n\n \t# more\r\nclock 1\r\n", True), (b"\xef\xbb\xbf# x\n", True),
                              (b"opne 100 0\n", True), (b"#A", True), (b"", True), (b"# caf\xc3\xa9\nopen 1 1\n", True), (b"#ABclock", True),
                              (b"context 1998 3\n# \0", True), (b"\n\nclock 1", True), (b" context 1998 3\n", True),
-                             (b"\1\0\3", False), (b" \0\0\0d\0\0\0\0", False), (b"#AB", False), (b"#AB#CD", False), (b'"abcd', False), (b"!AB " + b"x" * 255, False),
+                             (b"\1\0\3", False), (b" \0\0\0d\0\0\0\0", False), (b"#AB", False), (b"#AB#CD", False), (b'"abcd', False), (b"!timeAB " + b"x" * 255, False), (b"!AB " + b"x" * 255, True),
                              (b"#\0\t", False), (b"\0", False), (b"# \0context 1998 3\n", False)):
             self.assertEqual(bool(streams.told(octets, True)), text, octets)
 
     def test_as_little_as_is_needed(self):
-        for octets in (b"#AB", b"#A", b"# ", b"", b"!AB " + b"x" * 200):
+        for octets in (b"#AB", b"#A", b"# ", b"", b"!timeAB " + b"x" * 200):
             self.assertIsNone(streams.told(octets, False), octets)
         self.assertEqual(streams.told(b"#AB" * 30000, False), False)
 
@@ -514,9 +519,10 @@ def as_line(row):
     if row["row"] == "event":
         decided = row["decision"] or "-"
         decided += " %s" % row["refusal"] if decided == "refused" else " %s" % row["place"] if decided == "saved" else ""
-        position = ["-" if row["position"] in (None, "") else row["position"]] if row["name"] == "segment" else []
-        assert position or row["position"] in (None, ""), row
-        return " ".join(map(str, [row["name"], row["refusal"], row["records"], row["octets_delivered"], row["octets_lost"], *position, row["event"], decided]))
+        of_segment = row["name"] == "segment"
+        position = ["-" if row["position"] in (None, "") else row["position"]] if of_segment else []
+        assert of_segment or (row["position"], row["timeouts"]) in ((None, None), ("", "")), row
+        return " ".join(map(str, [row["name"], row["refusal"], row["records"], row["octets_delivered"], row["octets_lost"], *position, row["event"], *[row["timeouts"]] * of_segment, decided]))
     origin, destination = (re.sub("^0x", "", row[name]) or "-" for name in ("origin", "destination"))
     reference = "-" if row["reference"] in (None, "") else row["reference"]
     return "%s %s %s %s %s %s %s %s %s %s" % (row["row"], row["association"], row["context"], reference, row["instruction"], row["cause"], row["segments"], row["octets"],
@@ -534,8 +540,21 @@ class Tables(Folder):
         self.assertEqual([as_line(row) for row in json_rows], lines)
         for left, right in zip(csv_rows, json_rows):
             self.assertEqual(list(left), list(right))
-            self.assertTrue(all(isinstance(value, (int, type(None))) for key, value in right.items() if key not in ("file", "row", "name", "decision", "origin", "destination")))
+            self.assertTrue(all(isinstance(value, (int, type(None))) for key, value in right.items() if key not in ("file", "row", "name", "decision", "made_by", "origin", "destination")))
+        self.makers(json_rows)
         self.places(json_rows, path, text)
+
+    def makers(self, found):
+        """Of a segment's records as many as its timeouts are the clock's, and the first; what was dropped or is held nobody made."""
+        event, told = None, 0
+        for row in found:
+            if row["row"] == "event":
+                event, told = row, 0
+            elif row["row"] in ("delivered", "lost"):
+                self.assertEqual(row["made_by"], "clock" if told < (event["timeouts"] or 0) else event["name"])
+                self.assertEqual(row["made_by"] == "clock", row["cause"] == 6)
+                told += 1
+            self.assertTrue(row["made_by"] is None or row["row"] in ("delivered", "lost"))
 
     def places(self, found, path, text):
         """An event's line has its name on it, and its records the same line; what is held has none."""
@@ -563,7 +582,7 @@ class Tables(Folder):
             self.check(self.path(name, run("encode", example(name)).out), False)
 
     def test_every_kind_of_row(self):
-        text = self.path("t", b"context 2000 4\nopen 100 0\n\nsegment 9 84 80 41 85 02 00 07 02 07 00 AA\nopen 0 0 # drops\nopen 100 0\nsegment 9 84 80 41 85 01 1E 00 AA\ncontext 1998 3\n")
+        text = self.path("t", b"context 2000 4\nopen 100 0\n\nsegment 0 9 84 80 41 85 02 00 07 02 07 00 AA\nopen 0 0 # drops\nopen 100 0\nsegment 0 9 84 80 41 85 01 1E 00 AA\ncontext 1998 3\n")
         self.check(text, True)
         found = [json.loads(line) for line in run("records", "--json", text).out.decode().splitlines()]
         self.assertEqual([row["row"] for row in found], ["event", "event", "event", "dropped", "event", "event", "held", "stop"])
@@ -582,13 +601,25 @@ class Tables(Folder):
 
     def test_positions(self):
         """Behind what replay prints before it, as a number; nothing where no octet is at fault, and nothing for what is no segment."""
-        self.assertEqual(rows.COLUMNS[5:13], ("name", "refusal", "records", "octets_delivered", "octets_lost", "position", "decision", "place"))
-        text = b"segment 9\ncontext 2000 4\nopen 100 0\nsegment 9 84 00\nsegment 9\nsegment 9 84 80 C0 02 AA\nsegment 9 84 80 41 85 00 00\nclock 5\nclock 1\n"
+        self.assertEqual(rows.COLUMNS[5:14], ("name", "refusal", "records", "octets_delivered", "octets_lost", "position", "timeouts", "decision", "place"))
+        text = b"segment 0 9\ncontext 2000 4\nopen 100 0\nsegment 0 9 84 00\nsegment 0 9\nsegment 0 9 84 80 C0 02 AA\nsegment 0 9 84 80 41 85 00 00\nclock 5\nclock 1\n"
         found = [json.loads(line) for line in run("records", "--json", data=text).out.decode().splitlines()]
         self.assertEqual([(row["name"], row["refusal"], row["position"]) for row in found if row["row"] == "event"],
                          [("segment", 1, None), ("open", 0, None), ("segment", 6, 1), ("segment", 5, 0), ("segment", 5, 5), ("segment", 0, None), ("clock", 0, None), ("clock", 13, None)])
         table = list(csv.DictReader(io.StringIO(run("records", "--csv", data=text).out.decode(), newline="")))
         self.assertEqual([row["position"] for row in table], ["", "", "1", "0", "5", "", "", "", ""])
+
+    def test_whose_a_segments_records_are(self):
+        """timeouts stands for segments alone, and made_by for records alone, before whose they are."""
+        self.assertEqual(rows.COLUMNS[14:16], ("made_by", "association"))
+        text = b"context 1998 3\nopen 100 0\nsegment 0 9 83 80 41 85 AA\nsegment 100 9 83 80 00 85 BB\nsegment 100 9 83 80 41 85 AA\nsegment 200 9 85\nsegment 200 9 83 80 41 85 AA\nclock 300\nsegment 300 9 83 80 41 85 AA\nrelease 9\n"
+        found = [json.loads(line) for line in run("records", "--json", data=text).out.decode().splitlines()]
+        self.assertEqual([(row["name"], row["timeouts"]) for row in found if row["row"] == "event"],
+                         [("open", None), ("segment", 0), ("segment", 1), ("segment", 0), ("segment", 1), ("segment", 0), ("clock", None), ("segment", 0), ("release", None)])
+        self.assertEqual([(row["event"], row["made_by"], row["cause"]) for row in found if row["row"] == "lost"],
+                         [(3, "clock", 6), (3, "segment", 1), (5, "clock", 6), (7, "clock", 6), (9, "release", 7)])
+        table = list(csv.DictReader(io.StringIO(run("records", "--csv", data=text).out.decode(), newline="")))
+        self.assertEqual([row["made_by"] for row in table if row["row"] == "lost"], ["clock", "segment", "clock", "clock", "release"])
 
     def test_a_spreadsheet_must_not_take_an_address_for_a_number(self):
         self.assertIn(b",0x0007,\n", run("records", "--csv", example("origins")).out)
@@ -636,8 +667,8 @@ class Totals(Folder):
 
     def test_openings(self):
         """Refused ones, empty ones, events before the first; each opening begins anew, and a stop is no row."""
-        text = (b"clock 1\ncontext 1998 3\nopen 0 0\nsegment 9 83 80 C0 AA\nopen 100 0\nopen 100 0\nsegment 9 83 80 C0 AA\nsegment 0 83 80 41 85 01\n"
-                b"open 100 0\nsegment 0 83 80 00 85 01 02\ncontext 1998 4\n")
+        text = (b"clock 1\ncontext 1998 3\nopen 0 0\nsegment 0 9 83 80 C0 AA\nopen 100 0\nopen 100 0\nsegment 0 9 83 80 C0 AA\nsegment 0 0 83 80 41 85 01\n"
+                b"open 100 0\nsegment 0 0 83 80 00 85 01 02\ncontext 1998 4\n")
         self.assertEqual(run("totals", data=text), (3, b"opening 2 12\nopening 4 0\nopening 5 0\n9 1 1 1 1 0 0\n0 1 1 0 0 0 0\nopening 8 0\n0 1 2 0 0 1 2\nstop\n", ""))
         self.assertEqual(run("totals", "--csv", data=text), (3, (self.HEAD + "5,0,9,1,1,1,1,0,0\n5,0,0,1,1,0,0,0,0\n8,0,0,1,2,0,0,1,2\n").encode(), ""))
 
@@ -696,8 +727,8 @@ class Refusals(Folder):
 
     def test_bad_and_stopped(self):
         """A text with a bad line counts for nothing; a trace that stops counts up to there; the worst status counts."""
-        bad = self.path("bad.trace", b"context 1998 3\nopen 100 0\nsegment 9 03 80\nsegments\n")
-        stopped = self.path("stopped.trace", b"context 1998 3\nopen 100 0\nsegment 9 03 80\ncontext 1998 4\nsegment 9 03 80\n")
+        bad = self.path("bad.trace", b"context 1998 3\nopen 100 0\nsegment 0 9 03 80\nsegments\n")
+        stopped = self.path("stopped.trace", b"context 1998 3\nopen 100 0\nsegment 0 9 03 80\ncontext 1998 4\nsegment 0 9 03 80\n")
         self.assertEqual(run("refusals", stopped)[:2], (3, b"9 23 1\n"))
         ran = run("refusals", bad, stopped)
         self.assertEqual(ran[:2], (1, b"9 23 1\n"))
@@ -755,6 +786,7 @@ class Help(Folder):
             self.assertEqual(self.complete(TOOL, name, "-"), options, name)
         self.assertEqual(self.complete(TOOL, "records", "--j"), {"--json"})
         self.assertEqual(self.complete(TOOL, "t"), {"totals"})
+        self.assertEqual(self.complete(TOOL, "u"), {"upgrade"})
         self.assertEqual(self.complete(TOOL, "totals", "--c"), {"--csv"})
 
 
@@ -779,7 +811,7 @@ class Documents(Folder):
 
     def test_examples_of_the_manual(self):
         """A command, and in the next block what it prints, or the end of that."""
-        for name, most in (("egrynnol.1", 2), ("egrynnol-trace.5", 2)):
+        for name, most in (("egrynnol.1", 3), ("egrynnol-trace.5", 3)):
             blocks, tried = self.blocks(name), 0
             for command, shown in zip(blocks, blocks[1:]):
                 if command.startswith("printf ") and re.match("open|line", shown):
@@ -789,7 +821,7 @@ class Documents(Folder):
         self.assertTrue(self.pasted(self.blocks("egrynnol-trace.5")[-1]).endswith("\nstop\n"))
 
     def test_the_manuals_lines_of_records_and_totals(self):
-        text = b"context 1998 3\nopen 100 0\nsegment 9 83 81 41 85 AA\nsegment 9 83 80 00 85 BB\nsegment 9 83 80 41 86 CC\nrelease 8\n"
+        text = b"context 1998 3\nopen 100 0\nsegment 0 9 83 81 41 85 AA\nsegment 1 9 83 80 00 85 BB\nsegment 2 9 83 80 41 86 CC\nrelease 8\n"
         for name in ("records", "totals"):
             self.assertIn(run(name, data=text).out.decode(), self.blocks("egrynnol-trace.5"))
 
@@ -797,6 +829,13 @@ class Documents(Folder):
         text = self.page("README.md")
         block = re.search(r"It prints\n\n((?:    .*\n)+)", text).group(1)
         self.assertEqual(re.sub("(?m)^    ", "", block).encode(), run("replay", example("origins")).out)
+
+    def test_lines_of_the_examples(self):
+        """What the page and the trace itself show of examples/arrival is what records prints of it."""
+        lines = run("records", example("arrival")).out.decode().splitlines()
+        shown = re.findall(r"[`'](segment \d+ \d+ \d+ \d+ [-\d]+ \d+ \d+ \w+(?: \d+)?)[`']", self.page("examples", "README.md") + self.page("examples", "arrival.trace"))
+        self.assertEqual(len(shown), 3)
+        self.assertLessEqual(set(shown), set(lines))
 
     def test_lines_of_before_and_of_now(self):
         """docs/MIGRATION.md: the lines of now are printed so, and its sed makes those of before of them."""
@@ -816,7 +855,7 @@ class Sweep(Folder):
     """Random and damaged inputs over every subcommand: a status of the list, and never a traceback."""
 
     WORDS = REPLAYING + (["encode"], ["decode"], ["replay", "--text"], ["records", "--csv", "--octets"], ["explain", "--text"], ["explain", "--octets"],
-                         ["refusals"], ["refusals", "--csv", "--number", "5"])
+                         ["refusals"], ["refusals", "--csv", "--number", "5"], ["upgrade"], ["upgrade", "--octets"])
 
     def some_input(self, chance):
         with open(example(chance.choice(examples())), "rb") as file:

@@ -22,11 +22,13 @@ SEED = int(os.environ.get("SEED", "765"))
 RUNS = int(os.environ.get("RUNS", "1000"))
 programs.command_folder = TOOLS
 
-EVENT = re.compile(r"(?:line|offset) \d+, event (\d+): (open|segment|clock|release), ")
-RECORD = re.compile(r"    (delivered|lost, cause \d \(.*?\)): (\d+) octets? in ")
+EVENT = re.compile(r"(?:line|offset) \d+, event (\d+): (open|segment|clock|release)(?: at \d+)?, ")
+CLOCKED = "    by the clock first"
+FIRST = r"    (?:by the clock first(?:, and it stands)?: )?"
+RECORD = re.compile(FIRST + r"(delivered|lost, cause \d \(.*?\)): (\d+) octets? in ")
 SUM = re.compile(r"    (\d+) records: (\d+) octets? delivered, (\d+) octets? lost\Z")
 REFUSED = re.compile(r"    refused (\d+)(?: at position (\d+))?: ")
-UNDER = re.compile(r"    (delivered|lost|dropped|held)(?:, cause (\d) \(.*?\)| by this opening, with no record|, still open and in no record)?: (\d+) octets? in (\d+) segments?; "
+UNDER = re.compile(FIRST + r"(delivered|lost|dropped|held)(?:, cause (\d) \(.*?\)| by this opening, with no record|, still open and in no record)?: (\d+) octets? in (\d+) segments?; "
                    r"association (\d+), context (\d+), (?:unsegmented|reference (\d+)), instruction (\d), "
                    r"(?:no originating address|originating address ([0-9A-F ]+)), (?:no destination address|destination address ([0-9A-F ]+))\Z")
 
@@ -36,6 +38,7 @@ class Told:
 
     def __init__(self, name):
         self.name, self.refusal, self.records, self.octets, self.sum, self.answers, self.position = name, 0, 0, [0, 0], None, 0, "-"
+        self.timeouts = 0
 
     def line(self):
         return "%s %d %d %d %d" % (self.name, self.refusal, self.records, *self.octets) + (" %s" % self.position if self.name == "segment" else "")
@@ -46,6 +49,7 @@ class Told:
             self.refusal, self.position = int(refused.group(1)), refused.group(2) or "-"
             assert self.name == "segment" or self.position == "-", line
         if record:
+            self.clocked(line)
             self.records += 1
             self.octets[record.group(1) != "delivered"] += int(record.group(2))
         if summed:
@@ -53,8 +57,17 @@ class Told:
         self.answers += bool(refused or record) or line.startswith(("    saved in place ", "    accepted"))
 
 
-def lines_in_words(text):
-    """The lines that replay prints, put together again from the words."""
+    def clocked(self, line):
+        """The clock's records are said to be so, come first, and are losses by the timer."""
+        if self.name == "segment" and line.startswith(CLOCKED):
+            assert self.timeouts == self.records and "lost, cause 6 (" in line and (", and it stands: " in line) == bool(self.refusal), line
+            self.timeouts += 1
+        else:
+            assert not line.startswith(CLOCKED) and (self.name == "clock") == ("lost, cause 6 (" in line), line
+
+
+def told_in_words(text):
+    """What is told of each event, and whether the trace stops."""
     told, stopped = [], False
     for line in text.splitlines():
         event = EVENT.match(line)
@@ -69,7 +82,18 @@ def lines_in_words(text):
         assert it.answers >= 1, "nothing is said of %s" % it.line()
         assert it.sum is None or it.sum == [it.records, *it.octets], (it.sum, it.line())
         assert (it.sum is not None) == (it.records > 1)
+    return told, stopped
+
+
+def lines_in_words(text):
+    """The lines that replay prints, put together again from the words."""
+    told, stopped = told_in_words(text)
     return [it.line() for it in told] + ["stop"] * stopped
+
+
+def timeouts_in_words(text):
+    """Of each segment, how many of its records are said to be the clock's."""
+    return [it.timeouts for it in told_in_words(text)[0] if it.name == "segment"]
 
 
 def agree(text, lines):
@@ -97,6 +121,11 @@ def replayed(octets):
     return printed("replay", octets)
 
 
+def timeouts_of(octets):
+    """The same as records has it."""
+    return [int(line.split(" ")[7]) for line in printed("records", octets) if line.startswith("segment")]
+
+
 def recorded(octets):
     """Of the lines of records, those for what was delivered, lost, dropped and held."""
     return [line for line in printed("records", octets) if line.split(" ")[0] in ("delivered", "lost", "dropped", "held")]
@@ -115,12 +144,25 @@ def explained(octets):
 
 # ---- traces ----
 
-def segment(chance, association, heading, information):
+class Now:
+    """The time of a trace that is made. It mostly stays, goes on now and then, and some would have it go back."""
+
+    def __init__(self):
+        self.time = 0
+
+    def next(self, chance, steps=(0,) * 16 + (1, 1, 30, 60, 99, 100, 101, 2 ** 31 + 5)):
+        step = chance.choice(steps)
+        time = (self.time + step) % 2 ** 32
+        self.time = time if step < 2 ** 31 else self.time
+        return time
+
+
+def segment(chance, time, association, heading, information):
     octets = bytes(heading) + information
-    return bytes([33]) + association.to_bytes(2, "big") + bytes([len(octets)]) + octets.ljust(255, chance.choice([b"\0", b"\0", b"\x5a"]))
+    return bytes([33]) + time.to_bytes(4, "big") + association.to_bytes(2, "big") + bytes([len(octets)]) + octets.ljust(255, chance.choice([b"\0", b"\0", b"\x5a"]))
 
 
-def some_segment(chance):
+def some_segment(chance, now):
     """Of a few keys, so that sequences meet; begun, continued, ended, and sometimes bad."""
     context = chance.choice([3, 3, 4, 4, 5])
     padded = chance.random() < 0.05
@@ -135,30 +177,33 @@ def some_segment(chance):
         heading += chance.choice([[2, 0, 7, 0], [1, 7, 0], [0, 0], [1, 7, 1, 9], [1, 7, 2, 0, 9], [1, 7, 2, 9, 0], [21]])
     if chance.random() < 0.1:
         heading = heading[:chance.randrange(len(heading))] + [chance.randrange(256)] * chance.randrange(2)
-    return segment(chance, chance.choice([9, 9, 10]), heading, bytes(chance.choice([0, 1, 3, 230])))
+    return segment(chance, now.next(chance), chance.choice([9, 9, 10]), heading, bytes(chance.choice([0, 1, 3, 230])))
 
 
-def some_event(chance):
+def some_event(chance, now):
     kind = chance.choice([33] * 12 + [34, 34, 35, 32])
     if kind == 33:
-        return some_segment(chance)
+        return some_segment(chance, now)
     if kind == 34:
-        return bytes([34]) + chance.choice([0, 1, 50, 99, 100, 101, 200, 2 ** 31 + 5]).to_bytes(4, "big")
+        return bytes([34]) + now.next(chance, (0, 1, 50, 99, 100, 101, 200, 2 ** 31 + 5)).to_bytes(4, "big")
     if kind == 35:
         return bytes([35, 0, chance.choice([9, 10, 11])])
+    now.time = 0
     return bytes([32]) + chance.choice([100, 100, 100, 0]).to_bytes(4, "big") + bytes(4)
 
 
 def some_trace(chance):
-    octets = b"" if chance.random() < 0.9 else some_event(chance)
+    now = Now()
+    octets = b"" if chance.random() < 0.9 else some_event(chance, now)
+    now.time = 0
     octets += b"".join([b"\1\0\3", b"\2\0\4", b"\1\0\3" if chance.random() < 0.05 else b""])
     octets += bytes([32, 0, 0, 0, 100, 0, 0, 0, 0]) if chance.random() < 0.97 else b""
     many = chance.random() < 0.1
-    octets += b"".join(some_event(chance) for _ in range(chance.randrange(40)))
-    octets += b"".join(segment(chance, 9, [0x83, 0x80, 0x41, 128 + k], b"\7") for k in range(20 if many else 0))
+    octets += b"".join(some_event(chance, now) for _ in range(chance.randrange(40)))
+    octets += b"".join(segment(chance, now.time, 9, [0x83, 0x80, 0x41, 128 + k], b"\7") for k in range(20 if many else 0))
     crowd = chance.random() < 0.05
-    octets += b"".join(segment(chance, 100 + k, [0x83, 0x80, 0xC0], b"\7") for k in range(70 if crowd else 0))
-    octets += b"".join(some_event(chance) for _ in range(chance.randrange(10)))
+    octets += b"".join(segment(chance, now.time, 100 + k, [0x83, 0x80, 0xC0], b"\7") for k in range(70 if crowd else 0))
+    octets += b"".join(some_event(chance, now) for _ in range(chance.randrange(10)))
     return octets + chance.choice([b"", b"", b"", b"\1\0\5", b"\7", b"\x21\0"])
 
 
@@ -215,7 +260,7 @@ OPENING = bytes([32, 0, 0, 0, 100, 0, 0, 0, 0])
 
 
 def trace_of(parameters):
-    return REGISTRY + OPENING + b"".join(bytes([33, 0, 9, len(octets)]) + octets.ljust(255, b"\0") for octets in parameters)
+    return REGISTRY + OPENING + b"".join(bytes([33, 0, 0, 0, 0, 0, 9, len(octets)]) + octets.ljust(255, b"\0") for octets in parameters)
 
 
 def bad_parameters():
@@ -258,7 +303,7 @@ class Positions(unittest.TestCase):
         self.assertEqual(set(wanted), self.ALL)
         octets, registry = trace_of(parameters), self.registry()
         self.assertEqual(replayed(octets)[1:], ["segment %d 0 0 0 %d" % fault for fault in wanted])
-        self.assertEqual(printed("records", octets)[1:], ["segment %d 0 0 0 %d %d refused %d" % (*fault, number, fault[0]) for number, fault in enumerate(wanted, 2)])
+        self.assertEqual(printed("records", octets)[1:], ["segment %d 0 0 0 %d %d 0 refused %d" % (*fault, number, fault[0]) for number, fault in enumerate(wanted, 2)])
         status, text = explained(octets)
         self.assertEqual((status, [(int(number), int(at)) for number, at in re.findall(r"(?m)^    refused (\d+) at position (\d+): ", text)]), (0, list(wanted)))
         self.assertNotIn("its answer counts", text)
@@ -292,7 +337,7 @@ class Positions(unittest.TestCase):
         """Of 24 lines and 80 columns, however long the parameter is; here with spare bits, the longest addresses and octets past the length."""
         _, parameters = zip(*bad_parameters())
         most = b"\x2d\x82\xff\x7f\xff\x14" + bytes(20) + b"\x14" + bytes(19)
-        octets = trace_of((*parameters, most)) + bytes([33, 255, 255, len(most)]) + most.ljust(255, b"\xff")
+        octets = trace_of((*parameters, most)) + bytes([33, 0x7f, 255, 255, 255, 255, 255, len(most)]) + most.ljust(255, b"\xff")
         _, text = explained(octets)
         events = re.split(r"(?m)^(?=offset \d+, event )", text)[2:]
         self.assertEqual(len(events), len(parameters) + 2)
@@ -302,12 +347,12 @@ class Positions(unittest.TestCase):
         self.assertIn("octets past its length are not all zero", events[-1])
 
     def test_no_position(self):
-        """Nothing open, saved, delivered, lost, no place and no row: neither a position nor a mark, whatever the parameter is."""
-        many = b"".join(bytes([33, 1, k, 4, 0x83, 0x80, 0xC0, 1]) + bytes(251) for k in range(64))
+        """Nothing open, saved, delivered, lost, no place, no row and a step back: neither a position nor a mark, whatever the parameter is."""
+        many = b"".join(bytes([33, 0, 0, 0, 0, 1, k, 4, 0x83, 0x80, 0xC0, 1]) + bytes(251) for k in range(64)) + bytes([33, 128, 0, 0, 0, 0, 9, 2, 0x83]) + bytes(254)
         full = trace_of([bytes([0x83, 0x80, 0x41, 128 + k]) for k in range(17)] + [b"\x83\x80\0\x80", b"\x83\x80\0\xff", b"\x83\x80\xc0"])
         octets = trace_of([b"", b"\x83\0"])[len(REGISTRY + OPENING):] + full + many
         lines = replayed(octets)
-        self.assertEqual({line.split(" ")[1] for line in lines if line.startswith("segment")}, {"0", "1", "10", "21"})
+        self.assertEqual({line.split(" ")[1] for line in lines if line.startswith("segment")}, {"0", "1", "10", "13", "21"})
         self.assertEqual({line.split(" ")[5] for line in lines if line.startswith("segment")}, {"-"})
         _, text = explained(octets)
         self.assertEqual(lines_in_words(text), lines)
@@ -343,14 +388,14 @@ class Positions(unittest.TestCase):
         """Where the reading alone differs, the answer is shown all the same, and it is said that they differ."""
         differs = ", and that is not what the program answered; its answer counts"
         for line, parameter, reason, mark in (
-                ("segment 6 0 0 0 3 2 refused 6", b"\x83\0\x41\5", "the fault is refusal 6 at position 1" + differs, 3),
-                ("segment 5 0 0 0 1 2 refused 5", b"\x83\0\x41\5", "the fault is refusal 6 at position 1" + differs, 1),
-                ("segment 6 0 0 0 1 2 refused 6", b"\x83\x80\xc0", "no fault is found" + differs, 1),
-                ("segment 9 0 0 0 200 2 refused 9", b"\x83\x80\xc0", "no fault is found" + differs, 200),
-                ("segment 0 0 0 0 - 2 saved 0", b"\x83\0", "the fault is refusal 6 at position 1" + differs, None),
-                ("segment 10 0 0 0 - 2 refused 10", b"\x83\0", "the fault is refusal 6 at position 1" + differs, None),
-                ("segment 6 0 0 0 - 2 refused 6", b"\x83\0", "the fault is refusal 6 at position 1" + differs, None),
-                ("segment 1 0 0 0 - 2 refused 1", b"\x83\0", None, None), ("segment 6 0 0 0 1 2 refused 6", b"\x83\0", "octet 2, at position 1, is 00", 1)):
+                ("segment 6 0 0 0 3 2 0 refused 6", b"\x83\0\x41\5", "the fault is refusal 6 at position 1" + differs, 3),
+                ("segment 5 0 0 0 1 2 0 refused 5", b"\x83\0\x41\5", "the fault is refusal 6 at position 1" + differs, 1),
+                ("segment 6 0 0 0 1 2 0 refused 6", b"\x83\x80\xc0", "no fault is found" + differs, 1),
+                ("segment 9 0 0 0 200 2 0 refused 9", b"\x83\x80\xc0", "no fault is found" + differs, 200),
+                ("segment 0 0 0 0 - 2 0 saved 0", b"\x83\0", "the fault is refusal 6 at position 1" + differs, None),
+                ("segment 10 0 0 0 - 2 0 refused 10", b"\x83\0", "the fault is refusal 6 at position 1" + differs, None),
+                ("segment 6 0 0 0 - 2 0 refused 6", b"\x83\0", "the fault is refusal 6 at position 1" + differs, None),
+                ("segment 1 0 0 0 - 2 0 refused 1", b"\x83\0", None, None), ("segment 13 0 0 0 - 2 0 refused 13", b"\x83\0", None, None), ("segment 6 0 0 0 1 2 0 refused 6", b"\x83\0", "octet 2, at position 1, is 00", 1)):
             text = self.beside(line, parameter)
             said = [line for line in unwrapped(text) if line.startswith("    read alone, ") and line != FIELDS]
             self.assertEqual([line[16:16 + len(reason or "")] for line in said], [reason] if reason else [], text)
@@ -389,6 +434,7 @@ class Agrees(unittest.TestCase):
             text = run("explain", example(name)).out.decode()
             self.assertEqual(lines_in_words(text), replayed(octets), name)
             self.assertEqual(records_in_words(text), recorded(octets), name)
+            self.assertEqual(timeouts_in_words(text), timeouts_of(octets), name)
 
     def test_generated_traces(self):
         chance = random.Random(SEED)
@@ -398,12 +444,13 @@ class Agrees(unittest.TestCase):
             status, text = explained(octets)
             lines = replayed(octets)
             self.assertEqual(lines_in_words(text), lines, octets.hex())
+            self.assertEqual(timeouts_in_words(text), timeouts_of(octets), octets.hex())
             self.assertEqual(status, 3 if lines[-1:] == ["stop"] else 0)
             self.assertNotIn("its answer counts", text)
             self.assertEqual(["-" if seen.mark is None else str(seen.mark) for seen in shown(text)], [line.split(" ")[5] for line in lines if line.startswith("segment")], octets.hex())
-            met |= set(re.findall(r"refused \d+|cause \d|saved in place 15|dropped|held|stop,|    delivered", text))
+            met |= set(re.findall(r"refused \d+|cause \d|saved in place 15|dropped|held|stop,|    delivered|by the clock first[a-z, ]*", text))
         wanted = {"refused %d" % number for number in (1, 5, 6, 7, 8, 9, 10, 11, 12, 13, 21, 23)} | {"cause %d" % number for number in (1, 2, 3, 4, 6, 7)}
-        wanted |= {"saved in place 15", "dropped", "held", "stop,", "    delivered"}
+        wanted |= {"saved in place 15", "dropped", "held", "stop,", "    delivered", "by the clock first", "by the clock first, and it stands"}
         self.assertEqual(wanted - met if RUNS >= 1000 else set(), set(), "not met")
 
     def test_whose_each_record_is(self):
@@ -445,6 +492,17 @@ class Agrees(unittest.TestCase):
         for old, new in (("    lost, cause 2", "    kept, cause 2"), ("10 octets in 3 segments", "9 octets in 3 segments"), ("event 3", "event 4"),
                          ("    saved in place 0\n", ""), ("    saved in place 0\n", "    refused 5: x\n"), ("    delivered", "    lost, cause 1 (x)"),
                          ("    saved in place 0\n", "    refused 0 at position 1: x\n")):
+            self.assertIn(old, text)
+            self.assertFalse(agree(text.replace(old, new, 1), lines), old)
+
+    def test_words_of_the_clock_that_are_changed_are_found(self):
+        octets = run("encode", example("arrival")).out
+        _, text = explained(octets)
+        lines = replayed(octets)
+        self.assertTrue(agree(text, lines))
+        self.assertEqual(sorted(set(timeouts_in_words(text))), [0, 1, 16])
+        for old, new in (("by the clock first: ", ""), ("by the clock first, and it stands: ", "by the clock first: "), ("by the clock first: ", "by the clock first, and it stands: "),
+                         ("    lost, cause 1", "    by the clock first: lost, cause 1"), ("by the clock first: lost, cause 6", "by the clock first: lost, cause 7")):
             self.assertIn(old, text)
             self.assertFalse(agree(text.replace(old, new, 1), lines), old)
 

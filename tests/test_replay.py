@@ -17,10 +17,11 @@ REPLAY = os.environ.get("REPLAY", os.path.join(HERE, "..", "target", "bin", "rep
 SEED = int(os.environ.get("SEED", "765"))
 RUNS = int(os.environ.get("RUNS", "4000"))
 
-BODY = {1: 2, 2: 2, 32: 8, 33: 258, 34: 4, 35: 2}
+BODY = {1: 2, 2: 2, 32: 8, 33: 262, 34: 4, 35: 2}
 NAME = {32: "open", 33: "segment", 34: "clock", 35: "release"}
-# Refusals 5 to 9 and 23 have the position of an octet, and no other answer to a segment has one.
-LINE = re.compile(r"(?:open|clock|release) \d+ \d+ \d+ \d+|segment (?:(?:[5-9]|23) 0 0 0 \d+|(?!(?:[5-9]|23) )\d+ \d+ \d+ \d+ -)")
+# Refusals 5 to 9 and 23 have the position of an octet, and no other answer to a segment has one. Beside these and 21 there can be losses by the clock; beside 10, none was due.
+LINE = re.compile(r"open \d+ 0 0 0|(?:clock|release) (?:0 \d+ 0 \d+|[1-9]\d* 0 0 0)"
+                  r"|segment (?:(?:[5-9]|23) \d+ 0 \d+ \d+|21 \d+ 0 \d+ -|0 \d+ \d+ \d+ -|(?!(?:0|[5-9]|21|23) )\d+ 0 0 0 -)")
 
 
 def replay(octets):
@@ -38,9 +39,9 @@ def opening(timer=100, clock=0):
     return bytes([32]) + timer.to_bytes(4, "big") + clock.to_bytes(4, "big")
 
 
-def segment(text, association=9, past=b""):
+def segment(text, association=9, past=b"", time=0):
     octets = bytes.fromhex(text)
-    return bytes([33]) + association.to_bytes(2, "big") + bytes([len(octets)]) + (octets + past).ljust(255, b"\0")
+    return bytes([33]) + time.to_bytes(4, "big") + association.to_bytes(2, "big") + bytes([len(octets)]) + (octets + past).ljust(255, b"\0")
 
 
 def clock(time):
@@ -175,10 +176,9 @@ class Cases(unittest.TestCase):
             self.from_open(octets, *lines, line)
 
     def test_timer(self):
-        saved = segment("83804185AA")
-        self.from_open(saved + clock(99) + clock(100) + clock(100),
+        self.from_open(segment("83804185AA") + clock(99) + clock(100) + clock(100),
                        "segment 0 0 0 0 -", "clock 0 0 0 0", "clock 0 1 0 1", "clock 0 0 0 0")
-        self.prints(context(3) + opening(11, 4294967290) + saved + clock(4) + clock(5) + clock(4),
+        self.prints(context(3) + opening(11, 4294967290) + segment("83804185AA", time=4294967290) + clock(4) + clock(5) + clock(4),
                     "open 0 0 0 0", "segment 0 0 0 0 -", "clock 0 0 0 0", "clock 0 1 0 1", "clock 13 0 0 0")
         self.prints(context(3) + opening(100, 4294967290) + clock(5) + clock(4),
                     "open 0 0 0 0", "clock 0 0 0 0", "clock 13 0 0 0")
@@ -188,7 +188,7 @@ class Cases(unittest.TestCase):
     def test_seventeen_sequences(self):
         octets = b"".join(segment("838041%02XAA" % (128 + k)) for k in range(17))
         lines = ["segment 0 0 0 0 -"] * 16 + ["segment 10 0 0 0 -"]
-        self.from_open(octets + clock(100) + segment("83804190AA"), *lines, "clock 0 16 0 16", "segment 0 0 0 0 -")
+        self.from_open(octets + clock(100) + segment("83804190AA", time=100), *lines, "clock 0 16 0 16", "segment 0 0 0 0 -")
         self.from_open(octets + release(8) + release(9), *lines, "release 0 0 0 0", "release 0 16 0 16")
 
     def test_sixty_five_associations(self):
@@ -204,6 +204,60 @@ class Cases(unittest.TestCase):
         self.from_open(many + full + segment("83804185AA", 0) + segment("8380C0AA", 0), *lines, *["segment 0 0 0 0 -"] * 16, "segment 10 0 0 0 -", "segment 21 0 0 0 -")
         for timer, number in ((100, 0), (0, 12)):
             self.from_open(many + opening(timer) + opening() + segment("8380C0AA", 0), *lines, "open %d 0 0 0" % number, "open 0 0 0 0", "segment 0 1 1 0 -")
+
+    FIRST, LAST = "83814185AA", "83800085BBBB"
+
+    def test_the_time_of_a_segment(self):
+        """It is the clock's from there on: a step of 0 is good, one back is 13, be the next one a segment or a clock; and 13 changes nothing."""
+        self.from_open(segment("8380C0AA", time=7) + clock(7) + segment("8380C0AA", time=7) + clock(6) + segment("8380C0AA", time=6) + segment("8380C0AA", time=7),
+                       "segment 0 1 1 0 -", "clock 0 0 0 0", "segment 0 1 1 0 -", "clock 13 0 0 0", "segment 13 0 0 0 -", "segment 0 1 1 0 -")
+        self.from_open(segment("8380C0AA", time=2 ** 31) + segment("8380C0AA", time=2 ** 31 - 1) + clock(2 ** 31), "segment 13 0 0 0 -", "segment 0 1 1 0 -", "clock 0 0 0 0")
+        self.prints(context(3) + opening(100, 4294967290) + segment(self.FIRST, time=4294967295) + segment(self.LAST, time=98), "open 0 0 0 0", "segment 0 0 0 0 -", "segment 0 1 3 0 -")
+        self.prints(segment("8380C0AA", time=5) + context(3) + opening(), "segment 1 0 0 0 -", "open 0 0 0 0")
+
+    def test_a_segment_that_times_its_own_sequence_out(self):
+        """A tick before T it is joined. From T on the sequence is lost, and then a subsequent one too; a first one begins anew, and one in one piece is delivered."""
+        first = segment(self.FIRST)
+        self.from_open(first + segment(self.LAST, time=99), "segment 0 0 0 0 -", "segment 0 1 3 0 -")
+        for time in (100, 101, 2 ** 31 - 1):
+            with self.subTest(time):
+                self.from_open(first + segment(self.LAST, time=time), "segment 0 0 0 0 -", "segment 0 2 0 3 -")
+                self.from_open(first + segment(self.FIRST, time=time) + segment(self.LAST, time=time + 99), "segment 0 0 0 0 -", "segment 0 1 0 1 -", "segment 0 1 3 0 -")
+                self.from_open(first + segment("83804A85AABB", time=time), "segment 0 0 0 0 -", "segment 0 2 0 3 -")
+                self.from_open(first + segment("8380C0AABB", time=time) + segment(self.LAST, time=time), "segment 0 0 0 0 -", "segment 0 2 2 1 -", "segment 0 1 0 2 -")
+
+    def test_the_timer_of_a_sequence_runs_from_its_first_segment(self):
+        octets = segment("83804285AA", time=30) + segment("83800185BB", time=129)
+        self.from_open(octets + segment("83800085CC", time=129), "segment 0 0 0 0 -", "segment 0 0 0 0 -", "segment 0 1 3 0 -")
+        self.from_open(octets + segment("83800085CC", time=130), "segment 0 0 0 0 -", "segment 0 0 0 0 -", "segment 0 2 0 3 -")
+
+    def test_a_refused_segment_with_losses_beside_it(self):
+        """5 to 9, 23 and 21: the clock's work stands. What was lost stays so, and the time is set."""
+        many = b"".join(segment("8380C0AA", 100 + k) for k in range(63))
+        for text, association, line in (("83", 9, "5 %s 1"), ("8300", 9, "6 %s 1"), ("8380C1", 9, "7 %s 2"), ("85", 9, "8 %s 0"), ("8480C015", 9, "9 %s 3"), ("0380", 9, "23 %s 1"), ("8380C0AA", 8, "21 %s -")):
+            with self.subTest(text):
+                self.from_open(segment(self.FIRST) + many + segment(text, association, time=100) + clock(99) + segment(self.LAST, time=100),
+                               "segment 0 0 0 0 -", *["segment 0 1 1 0 -"] * 63, "segment " + line % "1 0 1", "clock 13 0 0 0", "segment 0 1 0 2 -")
+                self.from_open(segment(self.FIRST) + many + segment(text, association, time=99) + segment(self.LAST, time=99),
+                               "segment 0 0 0 0 -", *["segment 0 1 1 0 -"] * 63, "segment " + line % "0 0 0", "segment 0 1 3 0 -")
+
+    def test_13_before_what_is_wrong_with_the_parameter(self):
+        for text in ("", "8300", "85", "0380"):
+            self.from_open(segment(text, time=2 ** 31), "segment 13 0 0 0 -")
+
+    def test_a_full_table_that_an_arrival_empties(self):
+        """10 a tick too early, and that leaves its time; then sixteen are lost and one place is taken, the first, with the arrival's time as its start."""
+        octets = b"".join(segment("838041%02XAA" % (128 + k)) for k in range(16))
+        lines = ["segment 0 0 0 0 -"] * 16
+        self.from_open(octets + segment("83804190F0", time=99) + clock(98) + segment("83804190F0", time=100) + clock(199) + segment("83800090F1F2", time=199),
+                       *lines, "segment 10 0 0 0 -", "clock 13 0 0 0", "segment 0 16 0 16 -", "clock 0 0 0 0", "segment 0 1 3 0 -")
+        self.from_open(octets + segment("83804190F0", time=100) + clock(200), *lines, "segment 0 16 0 16 -", "clock 0 1 0 1")
+        self.from_open(octets + segment("8380C0F0F1", time=100) + release(), *lines, "segment 0 17 2 16 -", "release 0 0 0 0")
+
+    def test_losses_of_others(self):
+        """An arrival's time is everybody's: what is due of another association is lost too, and counted in this line."""
+        self.from_open(segment(self.FIRST, 7) + segment(self.FIRST, 8, time=50) + segment("8380C0AABB", time=120) + segment(self.LAST, 8, time=149),
+                       "segment 0 0 0 0 -", "segment 0 0 0 0 -", "segment 0 2 2 1 -", "segment 0 1 3 0 -")
 
     def test_origins_apart(self):
         self.from_open(segment("8480418502000700AA") + segment("848041850107" + "00BB") + segment("8480008502000700CC") + segment("848000850107" + "00DDEE"),
@@ -263,7 +317,8 @@ def some_record(chance):
     if kind == 35:
         return release(chance.choice([9, 10]))
     head = chance.choice(["8380", "8481", "0380", "83"]) + "%02X%02X" % (chance.randrange(256), 128 + chance.randrange(4))
-    return segment(head + bytes(chance.randrange(256) for _ in range(chance.randrange(30))).hex(), chance.choice([9, 10]))
+    time = chance.choice([0, 0, 0, 5, 50, 99, 100, 101, 4294967290, chance.randrange(2 ** 32)])
+    return segment(head + bytes(chance.randrange(256) for _ in range(chance.randrange(30))).hex(), chance.choice([9, 10]), time=time)
 
 
 def damaged(chance):
@@ -282,7 +337,9 @@ class Garbage(unittest.TestCase):
 
     def test_what_a_line_looks_like(self):
         for line, good in (("segment 6 0 0 0 1", True), ("segment 0 1 5 0 -", True), ("segment 10 0 0 0 -", True), ("clock 13 0 0 0", True), ("segment 5 0 0 0", False), ("segment 6 0 0 0 -", False),
-                           ("segment 10 0 0 0 1", False), ("segment 0 1 5 0 3", False), ("segment 1 0 0 0", False), ("open 0 0 0 0 -", False), ("segment 23 0 0 0 -", False)):
+                           ("segment 10 0 0 0 1", False), ("segment 0 1 5 0 3", False), ("segment 1 0 0 0", False), ("open 0 0 0 0 -", False), ("segment 23 0 0 0 -", False),
+                           ("segment 6 1 0 3 1", True), ("segment 21 2 0 3 -", True), ("segment 6 1 2 3 1", False), ("segment 10 1 0 1 -", False), ("segment 13 1 0 1 -", False),
+                           ("segment 1 1 0 1 -", False), ("clock 13 1 0 1", False), ("clock 0 1 1 0", False)):
             self.assertEqual(bool(LINE.fullmatch(line)), good, line)
 
     def test_random_octets(self):

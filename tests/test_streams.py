@@ -214,7 +214,7 @@ class Cases(Streams):
         self.fails("replay", "read", errno.EAGAIN, self.run_after(REPLAY, TRACE), LINES)
         self.fails("replay", "read", errno.EAGAIN, self.run_after(REPLAY, TRACE + b"\x22\x00"), LINES)
         self.fails("records", "read", errno.EAGAIN, self.run_after(RECORDS, TRACE + b"\x22\x00"), TOLD)
-        self.fails("records", "read", errno.EAGAIN, self.run_after(RECORDS, TRACE[:271]), TOLD[:TOLD.index(b"segment 0 0 0 0 - 3 ")])
+        self.fails("records", "read", errno.EAGAIN, self.run_after(RECORDS, TRACE[:275]), TOLD[:TOLD.index(b"segment 0 0 0 0 - 3 ")])
         for octets, before in ((TRACE, b""), (TRACE + b"\x22\x00", b""), (TRACE + TRACE[3:12], BILL)):
             out, *rest = self.run_after(TOTALS, octets)
             self.assertEqual(re.sub(rb"opening \d+ 0\n\Z", b"", out), before)  # a heading may be there before its rows

@@ -14,7 +14,7 @@ import unittest
 
 sys.dont_write_bytecode = True
 
-from test_explain import some_event, some_trace
+from test_explain import Now, some_event, some_trace
 from test_replay import PAPER, clock, context, damaged, expected_names, opening, release, segment
 
 HERE = os.path.dirname(os.path.abspath(__file__))
@@ -100,6 +100,15 @@ class Cases(unittest.TestCase):
         self.from_open(octets + clock(100), "9 8 8 0 0 8 8", "10 8 8 0 0 8 8")
         self.from_open(octets + release(10), "9 8 8 0 0 0 0", "10 8 8 0 0 8 8")
 
+    def test_an_arrival_and_what_it_times_out(self):
+        """Each association has its own losses, and the segment its own count; a refused segment is not taken, and what was due is lost all the same."""
+        first, late = segment("83814185AA") + segment("83814185AABB", 10), segment("83800085CCCC", time=100)
+        self.from_open(first + late, "9 2 3 0 0 2 3", "10 1 2 0 0 1 2")
+        self.from_open(first + segment("8380C0CCCC", 11, time=100), "9 1 1 0 0 1 1", "10 1 2 0 0 1 2", "11 1 2 1 2 0 0")
+        self.from_open(first + segment("85", time=100), "9 1 1 0 0 1 1", "10 1 2 0 0 1 2")
+        self.from_open(first + segment("85", time=99), "9 1 1 0 0 0 0", "10 1 2 0 0 0 0")
+        self.from_open(first + segment("8380C0", time=2 ** 31), "9 1 1 0 0 0 0", "10 1 2 0 0 0 0")
+
     def test_each_opening_begins_anew(self):
         self.from_open(segment("83804185AA") + opening(50) + segment("83800085BB", 10) + opening(0) + segment("8380C0") + opening(),
                        "9 1 1 0 0 0 0", "opening 3 0", "10 1 1 0 0 1 1", "opening 5 12", "opening 7 0")
@@ -163,8 +172,8 @@ class Agrees(unittest.TestCase):
     def test_generated_traces(self):
         chance, met = random.Random(SEED), set()
         for _ in range(RUNS):
-            octets = some_trace(chance)
-            lines = self.holds(octets + b"".join(some_event(chance) for _ in range(chance.randrange(20))))
+            octets, now = some_trace(chance), Now()
+            lines = self.holds(octets + b"".join(some_event(chance, now) for _ in range(chance.randrange(20))))
             met |= {re.sub(r"\d+ (\d+)\Z", r"N \1", line) for line in lines if line.startswith("opening")} | {"stop"} & set(lines)
             met |= {"full"} if len(lines) > 64 else set()
         self.assertLessEqual({"opening N 0", "opening N 11", "opening N 12", "stop", "full"}, met)

@@ -80,7 +80,7 @@ def random_line(dice):
     if kind == 4:
         return "release %d" % number(dice, 2)
     octets = some_octets(dice, 255)
-    words = ["segment", "%d" % number(dice, 2)] + ["%02X" % o for o in octets]
+    words = ["segment", "%d" % number(dice, 4), "%d" % number(dice, 2)] + ["%02X" % o for o in octets]
     room = 255 - len(octets)
     if room and dice.random() < 0.2:
         past = some_octets(dice, room)[:room - 1] + bytes([dice.randint(1, 255)])
@@ -91,10 +91,10 @@ def random_line(dice):
 def random_record(dice):
     """A record in octets, made without the tool."""
     kind = dice.choice([1, 2, 32, 33, 33, 34, 35])
-    length = {1: 2, 2: 2, 32: 8, 33: 258, 34: 4, 35: 2}[kind]
+    length = {1: 2, 2: 2, 32: 8, 33: 262, 34: 4, 35: 2}[kind]
     body = bytearray(dice.randrange(256) for _ in range(length))
     if kind == 33 and dice.random() < 0.7:
-        body[3 + body[2]:] = bytes(255 - body[2])
+        body[7 + body[6]:] = bytes(255 - body[6])
     return bytes([kind]) + bytes(body)
 
 
@@ -138,22 +138,22 @@ class RoundTrips(unittest.TestCase):
             self.assertLess(offset, len(octets))
 
     def test_loose_text_means_the_same(self):
-        loose = "\ufeff# a comment\r\n\r\n  context\t1998   003 # three\r\n\nsegment 9 aa Bb cC#x\n  \nclock 00000000000000000007"
-        self.assertEqual(decode(encode(loose).out).out, b"context 1998 3\nsegment 9 AA BB CC\nclock 7\n")
+        loose = "\ufeff# a comment\r\n\r\n  context\t1998   003 # three\r\n\nsegment 07 9 aa Bb cC#x\n  \nclock 00000000000000000007"
+        self.assertEqual(decode(encode(loose).out).out, b"context 1998 3\nsegment 7 9 AA BB CC\nclock 7\n")
 
     def test_hex_forms(self):
         """Without blanks, with colons, with 0x, and mixed: the same octets; decode writes one form."""
         for form in ("83814185AA", "83:81:41:85:AA", "0x83814185AA", "0x83 0x81 0x41 0x85 0xAA", "8381 4185aa", "0X8381 41:85 aa", "83 81:41 0x85AA",
                      "83 81 41 85 AA |", "83 81 41 85 AA | 0000", "8381:41"):
-            ran = encode("segment 9 %s\n" % form)
+            ran = encode("segment 0 9 %s\n" % form)
             if form in ("83 81 41 85 AA |", "8381:41"):
                 self.assertFalse(ran.good, form)
                 continue
             self.assertEqual((ran.good, ran.said), (True, []), form)
-            self.assertEqual(decode(ran.out).out, b"segment 9 83 81 41 85 AA\n", form)
-        self.assertEqual(decode(encode("segment 9 aabb | 00:01 0x0203").out).out, b"segment 9 AA BB | 00 01 02 03\n")
-        self.assertTrue(encode("segment 9 " + "AB" * 255).good)
-        self.assertEqual(encode("segment 9 0x" + "AB" * 256).said, ["T:1: a parameter has 0 to 255 octets, here are 256"])
+            self.assertEqual(decode(ran.out).out, b"segment 0 9 83 81 41 85 AA\n", form)
+        self.assertEqual(decode(encode("segment 0 9 aabb | 00:01 0x0203").out).out, b"segment 0 9 AA BB | 00 01 02 03\n")
+        self.assertTrue(encode("segment 0 9 " + "AB" * 255).good)
+        self.assertEqual(encode("segment 0 9 0x" + "AB" * 256).said, ["T:1: a parameter has 0 to 255 octets, here are 256"])
 
     def test_hex_forms_at_random(self):
         dice = random.Random(5)
@@ -163,31 +163,31 @@ class RoundTrips(unittest.TestCase):
                 piece = octets[at:at + dice.randint(1, 7)]
                 words_.append(dice.choice([piece.hex(), piece.hex().upper(), piece.hex(":"), piece.hex(" "), "0x" + piece.hex(), "0X" + piece.hex().upper()]))
                 at += len(piece)
-            ran = encode("segment 7 %s\n" % " ".join(words_))
-            self.assertEqual((ran.good, ran.out[4:4 + len(octets)], ran.out[3]), (True, octets, len(octets)), words_)
+            ran = encode("segment 0 7 %s\n" % " ".join(words_))
+            self.assertEqual((ran.good, ran.out[8:8 + len(octets)], ran.out[7]), (True, octets, len(octets)), words_)
 
     def test_the_octets_of_each_kind(self):
         for text, octets in [
                 ("context 1998 3", "01 00 03"), ("context 2000 65535", "02 FF FF"),
                 ("open 100 4294967295", "20 00 00 00 64 FF FF FF FF"), ("open 0 0", "20" + " 00" * 8),
                 ("clock 99", "22 00 00 00 63"), ("release 65535", "23 FF FF"),
-                ("segment 9", "21 00 09 00" + " 00" * 255),
-                ("segment 258 83 81", "21 01 02 02 83 81" + " 00" * 253),
-                ("segment 9 AA | 00 01", "21 00 09 01 AA 00 01" + " 00" * 252),
-                ("segment 9" + " FE" * 255, "21 00 09 FF" + " FE" * 255)]:
+                ("segment 0 9", "21 00 00 00 00 00 09 00" + " 00" * 255),
+                ("segment 16909060 258 83 81", "21 01 02 03 04 01 02 02 83 81" + " 00" * 253),
+                ("segment 4294967295 9 AA | 00 01", "21 FF FF FF FF 00 09 01 AA 00 01" + " 00" * 252),
+                ("segment 7 9" + " FE" * 255, "21 00 00 00 07 00 09 FF" + " FE" * 255)]:
             self.assertEqual(encode(text).out, bytes.fromhex(octets.replace(" ", "")), text)
 
     def test_octets_past_the_length_are_kept_and_said(self):
-        octets = bytes([33, 0, 9, 1, 0xAA]) + bytes(253) + b"\x07"
+        octets = bytes([33, 0, 0, 0, 5, 0, 9, 1, 0xAA]) + bytes(253) + b"\x07"
         ran = decode(bytes([1, 0, 3]) + octets)
-        self.assertEqual(ran.out.decode(), "context 1998 3\nsegment 9 AA |" + " 00" * 253 + " 07\n")
+        self.assertEqual(ran.out.decode(), "context 1998 3\nsegment 5 9 AA |" + " 00" * 253 + " 07\n")
         self.assertEqual(len(ran.said), 1)
         self.assertIn("offset 3", ran.said[0])
         self.assertTrue(ran.good)
         self.assertEqual(decode(octets[:-1] + b"\0").said, [])
 
     def test_zeros_after_the_bar_are_not_needed(self):
-        self.assertEqual(encode("segment 9 AA | 00 00").out, encode("segment 9 AA").out)
+        self.assertEqual(encode("segment 0 9 AA | 00 00").out, encode("segment 0 9 AA").out)
 
 
 class BadText(unittest.TestCase):
@@ -212,25 +212,26 @@ class BadText(unittest.TestCase):
         ("open 1 " + "9" * 5000, "open: clock: '" + "9" * 37 + "...' is out of range"),
         ("open 0x64 0", "open: T: '0x64' is not a decimal number"),
         ("open 100, 0", "open: T: '100,' is not a decimal number"),
-        ("segment", "segment: the number for association is missing"),
-        ("segment 65536 AA", "segment: association: '65536' is out of range, 0 to 65535"),
-        ("segment AA 83", "segment: association: 'AA' is not a decimal number"),
-        ("segment 9 8", "'8' is not whole octets: two hex digits each"),
-        ("segment 9 83814", "'83814' is not whole octets"),
-        ("segment 9 0x838", "'0x838' is not whole octets"),
-        ("segment 9 0x", "'0x' is not an octet"),
-        ("segment 9 x83", "'x83' is not an octet"),
-        ("segment 9 83: 81", "'83:' is not an octet"),
-        ("segment 9 83::81", "'83::81' is not an octet"),
-        ("segment 9 8:3", "'8:3' is not an octet"),
-        ("segment 9 838:14", "'838:14' is not an octet"),
-        ("segment 9 0G", "'0G' is not an octet: two hex digits each, as 83 81, 8381, 83:81 or 0x8381"),
-        ("segment 9 \u0661\u0661", "is not an octet"),
-        ("segment 9 AA|01", "'AA|01' is not an octet"),
-        ("segment 9 AA | 01 | 02", "'|' is not an octet"),
-        ("segment 9 AA |", "no octet after '|'"),
-        ("segment 9" + " 00" * 256, "a parameter has 0 to 255 octets, here are 256"),
-        ("segment 9" + " 00" * 255 + " | 00", "parameter and octets after '|' are 256 octets together, over 255"),
+        ("segment", "segment: the number for time is missing"),
+        ("segment 4294967296 9 AA", "segment: time: '4294967296' is out of range, 0 to 4294967295"),
+        ("segment 0 65536 AA", "segment: association: '65536' is out of range, 0 to 65535"),
+        ("segment AA 83", "segment: time: 'AA' is not a decimal number"),
+        ("segment 0 9 8", "'8' is not whole octets: two hex digits each"),
+        ("segment 0 9 83814", "'83814' is not whole octets"),
+        ("segment 0 9 0x838", "'0x838' is not whole octets"),
+        ("segment 0 9 0x", "'0x' is not an octet"),
+        ("segment 0 9 x83", "'x83' is not an octet"),
+        ("segment 0 9 83: 81", "'83:' is not an octet"),
+        ("segment 0 9 83::81", "'83::81' is not an octet"),
+        ("segment 0 9 8:3", "'8:3' is not an octet"),
+        ("segment 0 9 838:14", "'838:14' is not an octet"),
+        ("segment 0 9 0G", "'0G' is not an octet: two hex digits each, as 83 81, 8381, 83:81 or 0x8381"),
+        ("segment 0 9 \u0661\u0661", "is not an octet"),
+        ("segment 0 9 AA|01", "'AA|01' is not an octet"),
+        ("segment 0 9 AA | 01 | 02", "'|' is not an octet"),
+        ("segment 0 9 AA |", "no octet after '|'"),
+        ("segment 0 9" + " 00" * 256, "a parameter has 0 to 255 octets, here are 256"),
+        ("segment 0 9" + " 00" * 255 + " | 00", "parameter and octets after '|' are 256 octets together, over 255"),
         ("clock", "clock: the number for time is missing"),
         ("clock -1", "clock: time: '-1' is not a decimal number"),
         ("clock 1.5", "clock: time: '1.5' is not a decimal number"),
@@ -275,7 +276,7 @@ class BadText(unittest.TestCase):
 
     def test_what_the_replay_program_refuses_can_be_written(self):
         for line in ["open 0 0", "open 4294967295 0", "context 1998 0", "context 2000 65535",
-                     "release 65535", "segment 65535", "open 1 1\ncontext 1998 3"]:
+                     "release 65535", "segment 4294967295 65535", "open 1 1\ncontext 1998 3"]:
             self.assertTrue(encode(line).good, line)
 
     def test_the_others_name_the_lines_too(self):
@@ -301,7 +302,7 @@ class BadOctets(unittest.TestCase):
                 (b"\x01\0", "the record is cut: kind 1 (context 1998) has 3 octets, here are 2"),
                 (b"\x02", "kind 2 (context 2000) has 3 octets, here are 1"),
                 (b"\x20" + bytes(7), "kind 32 (open) has 9 octets, here are 8"),
-                (b"\x21" + bytes(257), "kind 33 (segment) has 259 octets, here are 258"),
+                (b"\x21" + bytes(261), "kind 33 (segment) has 263 octets, here are 262"),
                 (b"\x22\0", "kind 34 (clock) has 5 octets, here are 2"),
                 (b"\x23\0", "kind 35 (release) has 3 octets, here are 2")]:
             ran = decode(head + tail)
@@ -327,8 +328,8 @@ REGISTRY = "context 1998 3\ncontext 2000 4\nopen 100 0\n"
 def told(*parameters, registry=REGISTRY):
     """What explain says of each parameter alone, as lists of lines: its fields, and last what is wrong. Each meets a fresh opening."""
     found, fault, fields = [], None, False
-    for line in unwrapped(explain_text(registry + "".join("segment 9 %s\nopen 100 0\n" % parameter for parameter in parameters))):
-        if ": segment, association 9" in line:
+    for line in unwrapped(explain_text(registry + "".join("segment 0 9 %s\nopen 100 0\n" % parameter for parameter in parameters))):
+        if ": segment at 0, association 9" in line:
             found.append([])
         elif ": open, T 100" in line and fault:
             found[-1].append(fault)
@@ -397,11 +398,11 @@ class Explained(unittest.TestCase):
 
     def test_refusals_are_the_programs(self):
         """Its number in words; and before any opening it is 1, whatever the parameter is."""
-        lines = explain_text(REGISTRY + "".join("segment 9 %s\n" % parameter for parameter, _ in self.REFUSED)).splitlines()
+        lines = explain_text(REGISTRY + "".join("segment 0 9 %s\n" % parameter for parameter, _ in self.REFUSED)).splitlines()
         refused = [re.sub(r" at position \d+: ", ": ", line.strip()) for line in lines if line.startswith("    refused")]
         self.assertEqual(refused, ["refused %d: %s" % (number, words.REFUSALS[number]) for _, number in self.REFUSED])
         self.assertEqual(sum("at position" in line for line in lines if line.startswith("    refused")), len(self.REFUSED))
-        lines = explain_text("".join("segment 9 %s\n" % parameter for parameter, _ in self.REFUSED)).splitlines()
+        lines = explain_text("".join("segment 0 9 %s\n" % parameter for parameter, _ in self.REFUSED)).splitlines()
         refused = [line.strip() for line in lines if "refused" in line]
         self.assertEqual(refused, ["refused 1: %s" % words.REFUSALS[1]] * len(self.REFUSED))
         self.assertNotIn("^^", "".join(lines))
@@ -433,7 +434,7 @@ class Explained(unittest.TestCase):
 
     def test_reasons_where_nothing_is_open(self):
         """The parameter is not read then, so it is not blamed; what is wrong with it is still said."""
-        text = "\n".join(unwrapped(explain_text("context 1998 3\nsegment 9 83 00\nsegment 9 85 00\nsegment 9 83 80\n")))
+        text = "\n".join(unwrapped(explain_text("context 1998 3\nsegment 0 9 83 00\nsegment 0 9 85 00\nsegment 0 9 83 80\n")))
         octet2 = "octet 2, at position 1, is 00: extension 0, and it has to be 1 (80 to FF)"
         for context, reason in (("context 3: listed as of 1998, no address fields", octet2), ("context 5: not listed so far in this trace", octet2)):
             self.assertIn("    read alone, the parameter says:\n        %s\n        not read on: %s\n" % (context, reason), text)
@@ -455,7 +456,7 @@ class Explained(unittest.TestCase):
         both = told("83 80 C0 02 01 02", registry="context 1998 3\ncontext 2000 3\n")
         self.assertEqual(both[0], "context 3: listed as of 1998 and as of 2000")
         self.assertEqual(both[-1], "3 octets left: whether addresses are among them, the registry does not say")
-        before = explain_text("segment 9 83 80 C0\ncontext 1998 3\nsegment 9 83 80 C0\n")
+        before = explain_text("segment 0 9 83 80 C0\ncontext 1998 3\nsegment 0 9 83 80 C0\n")
         self.assertEqual(before.count("not listed so far"), 1)
 
     def test_other_records(self):
@@ -477,10 +478,10 @@ class Explained(unittest.TestCase):
     def test_every_decision(self):
         """Saved, delivered both ways, every cause, refusal 10, what an opening drops, what is held."""
         text = explain_text(
-            REGISTRY + "segment 9 83 81 41 85 AA\nsegment 9 83 80 00 85 BB\nsegment 9 83 80 C0 CC\nsegment 9 83 80 00 85\n"
-            "segment 9 83 80 42 85 01\nsegment 9 83 80 00 85 02\nsegment 9 83 80 42 85 01\nsegment 9 83 80 42 85 02\nsegment 9 83 80 4A 85 03\n"
-            "segment 9 84 80 42 86 02 00 07 00 01 02 03\nclock 100\nsegment 9 83 80 42 85 01\nrelease 9\nsegment 9 83 80 42 85 01\nopen 100 0\n"
-            "segment 9 83 80 42 86 01\nopen 0 0\nopen 5 5\nsegment 8 83 80 42 87 01 02\n")
+            REGISTRY + "segment 0 9 83 81 41 85 AA\nsegment 0 9 83 80 00 85 BB\nsegment 0 9 83 80 C0 CC\nsegment 0 9 83 80 00 85\n"
+            "segment 0 9 83 80 42 85 01\nsegment 0 9 83 80 00 85 02\nsegment 0 9 83 80 42 85 01\nsegment 0 9 83 80 42 85 02\nsegment 0 9 83 80 4A 85 03\n"
+            "segment 0 9 84 80 42 86 02 00 07 00 01 02 03\nclock 100\nsegment 100 9 83 80 42 85 01\nrelease 9\nsegment 100 9 83 80 42 85 01\nopen 100 0\n"
+            "segment 0 9 83 80 42 86 01\nopen 0 0\nopen 5 5\nsegment 5 8 83 80 42 87 01 02\n")
         whose = "association 9, context 3, reference %d, instruction %d, no originating address, no destination address"
         for line in ("saved in place 0", "delivered: 2 octets in 2 segments; " + whose % (5, 1),
                      "delivered: 1 octet in 1 segment; association 9, context 3, unsegmented, instruction 0, no originating address, no destination address",
@@ -501,11 +502,31 @@ class Explained(unittest.TestCase):
         self.assertEqual(lessees.count("    refused 21: no row for a new association: 64 have one\n"), 4)
         self.assertIn("lost, cause 5 (%s): 2049 octets in 10 segments" % words.CAUSES[5], run("explain", example("longest")).out.decode())
 
+    def test_what_a_segments_time_loses(self):
+        """Before the segment's own record, and beside a refusal; where the step is one back no parameter is read."""
+        late = "by the clock first%s: lost, cause 6 (" + words.CAUSES[6] + "): 1 octet in 1 segment; association 9, context 3, reference 5, instruction 1, no originating address, no destination address"
+        first = REGISTRY + "segment 0 9 83 81 41 85 AA\n"
+        lines = explain_text(first + "segment 100 9 83 80 00 85 BB CC\n").splitlines()
+        at = lines.index("line 5, event 3: segment at 100, association 9, 6 octets")
+        self.assertEqual(lines[at + 1:at + 3], ["    2 records: 0 octets delivered, 3 octets lost", "    " + late % ""])
+        self.assertTrue(lines[at + 3].startswith("    lost, cause 1 (%s): 2 octets in 1 segment; " % words.CAUSES[1]), lines[at + 3])
+        lines = explain_text(first + "segment 100 9 83 81 41 85 AA\n").splitlines()
+        at = lines.index("line 5, event 3: segment at 100, association 9, 5 octets")
+        self.assertEqual(lines[at + 1:at + 3], ["    saved in place 0", "    " + late % ""])
+        lines = explain_text(first + "segment 100 9 85\n").splitlines()
+        at = lines.index("line 5, event 3: segment at 100, association 9, 1 octet")
+        self.assertEqual(lines[at + 1:at + 5], ["    refused 8 at position 0: " + words.REFUSALS[8], "          0  85", "             ^^", "    " + late % ", and it stands"])
+        self.assertTrue(lines[at + 5].startswith("    read alone, context 5, "), lines[at + 5])
+        lines = explain_text(first + "segment 2147483648 9 83 00\n").splitlines()
+        at = lines.index("line 5, event 3: segment at 2147483648, association 9, 2 octets")
+        self.assertEqual(lines[at + 1:at + 3], ["    refused 13: " + words.REFUSALS[13], FIELDS])
+        self.assertNotIn("by the clock", explain_text(first + "clock 100\n"))
+
     def test_both_addresses_of_a_record(self):
         """Either, both or none, each in the same words."""
         for parameter, said in (("02 00 07 01 31", "originating address 00 07, destination address 31"), ("00 02 07 00", "no originating address, destination address 07 00"),
                                 ("01 07 00", "originating address 07, no destination address"), ("00 00", "no originating address, no destination address")):
-            text = explain_text(REGISTRY + "segment 9 84 80 C0 %s AA\nsegment 9 84 80 00 85 %s AA\nsegment 9 84 80 41 85 %s AA\n" % (parameter, parameter, parameter))
+            text = explain_text(REGISTRY + "segment 0 9 84 80 C0 %s AA\nsegment 0 9 84 80 00 85 %s AA\nsegment 0 9 84 80 41 85 %s AA\n" % (parameter, parameter, parameter))
             for line in ("delivered: 1 octet in 1 segment; association 9, context 4, unsegmented, instruction 0, " + said,
                          "lost, cause 1 (%s): 1 octet in 1 segment; association 9, context 4, reference 5, instruction 0, %s" % (words.CAUSES[1], said),
                          "held, still open and in no record: 1 octet in 1 segment; association 9, context 4, reference 5, instruction 0, " + said):
@@ -516,7 +537,7 @@ class Explained(unittest.TestCase):
         self.assertIn("\n    2 records: 0 octets delivered, 3 octets lost\n", text)
 
     def test_octets_and_text_are_told_alike(self):
-        text = REGISTRY + "segment 9 84 80 41 85 02 00 07 00 AA\nsegment 9\n"
+        text = REGISTRY + "segment 0 9 84 80 41 85 02 00 07 00 AA\nsegment 0 9\n"
         octets = encode(text).out
         names = re.compile(r"^(offset|line) \d+", re.M)
         of_octets = run("explain", data=octets).out.decode()
@@ -555,22 +576,22 @@ class NoInformation(unittest.TestCase):
 
     def test_what_was_not_read_is_not_shown(self):
         for parameter in ("84 80 C0 14 5A 5A 5A", "84 80 C0 00 14 5A 5A 5A", "85 80 C0 5A", "83 00 5A", "83 80 C1 5A", "84 80 C0 15 5A", "03 80 5A"):
-            text = explain_text(REGISTRY + "segment 9 %s\n" % parameter)
+            text = explain_text(REGISTRY + "segment 0 9 %s\n" % parameter)
             self.assertNotIn("5A", text)
             self.assertIn(" ..", text)
             self.assertRegex(text, r"\n        positions? \d+ (is|to \d+ are) not shown: what stands there may be information\n")
 
     def test_octets_past_the_length_are_not_shown(self):
-        text = explain_text(REGISTRY + "segment 9 83 80 C0 | 5A 5A\n")
+        text = explain_text(REGISTRY + "segment 0 9 83 80 C0 | 5A 5A\n")
         self.assertNotIn("5A", text)
         self.assertIn("octets past its length are not all zero; they do not count", text)
-        self.assertNotIn("past its length", explain_text("segment 9 83 80 C0 | 00 00\n"))
+        self.assertNotIn("past its length", explain_text("segment 0 9 83 80 C0 | 00 00\n"))
 
 
 class CommandLine(unittest.TestCase):
 
     def test_pipes_and_files(self):
-        text = b"context 1998 3\nopen 100 0\nsegment 9 83 81 41 85 AA\n"
+        text = b"context 1998 3\nopen 100 0\nsegment 0 9 83 81 41 85 AA\n"
         with tempfile.TemporaryDirectory() as place:
             source, octets, back = (os.path.join(place, n) for n in ("t", "o", "b"))
             with open(source, "wb") as stream:
@@ -630,8 +651,8 @@ class CommandLine(unittest.TestCase):
                 return True
 
             def readinto(self, area):
-                size = min(len(area), 259) if self.left else 0
-                area[:size] = (bytes([33, 0, 9, 4, 0x83, 0x80, 0xC0, 1]) + bytes(251))[:size]
+                size = min(len(area), 263) if self.left else 0
+                area[:size] = (bytes([33, 0, 0, 0, 0, 0, 9, 4, 0x83, 0x80, 0xC0, 1]) + bytes(251))[:size]
                 self.left -= 1 if size else 0
                 return size
 
@@ -643,7 +664,7 @@ class CommandLine(unittest.TestCase):
                 pass
 
         tracemalloc.start()
-        self.assertEqual(commands.decoded(streams.Trace("T", io.BufferedReader(Endless(), 259), None), Sink()), commands.GOOD)
+        self.assertEqual(commands.decoded(streams.Trace("T", io.BufferedReader(Endless(), 263), None), Sink()), commands.GOOD)
         peak = tracemalloc.get_traced_memory()[1]
         tracemalloc.stop()
         self.assertLess(peak, 1000000)

@@ -122,11 +122,12 @@ static void print_delivery(egrynnol_decision decision, const uint8_t *parameter,
 
 static void receive_line(void)
 {
-    uint8_t parameter[EGRYNNOL_PARAMETER], report[EGRYNNOL_REPORT_SEGMENT];
+    uint8_t parameter[EGRYNNOL_PARAMETER], report[EGRYNNOL_REPORT_ARRIVAL];
     uint16_t association = (uint16_t)number(word());
     size_t length = octets(parameter, sizeof parameter);
-    egrynnol_received got = egrynnol_segment(table, &summary, store, sizeof store, report, sizeof report,
-                                             association, parameter, length);
+    /* At the time of the opening: no timer runs here. */
+    egrynnol_received got = egrynnol_arrival(table, &summary, store, sizeof store, report, sizeof report,
+                                             table.clock, association, parameter, length);
     table = got.table;
     switch (got.decision.kind) {
     case EGRYNNOL_SAVED:

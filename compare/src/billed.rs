@@ -1,13 +1,24 @@
 //! What a call has to do to the summary, whatever both sides say: from its records, and from what
 //! the table holds before and after it.
 
+use crate::arrivals::{Arrived, Reached};
 use crate::input::{Answer, Input};
 use crate::summaries::{self, Gain};
 use model::*;
 
 /// What is wrong with the summary that both sides left, if anything is.
-pub fn wrong(input: &Input, answer: &Answer, after: &Summary, report: &[u8]) -> Option<String> {
-    let expected = expected(input, answer, report)?;
+pub fn wrong(
+    input: &Input,
+    answer: &Answer,
+    arrived: Option<&Arrived>,
+    after: &Summary,
+    report: &[u8],
+) -> Option<String> {
+    let before = *input.summary()?;
+    let expected = match arrived {
+        Some(arrived) => arrival(before, arrived, report),
+        None => expected(before, input, answer, report),
+    };
     if expected == *after {
         return None;
     }
@@ -15,21 +26,30 @@ pub fn wrong(input: &Input, answer: &Answer, after: &Summary, report: &[u8]) -> 
     Some(format!("both leave this {after}but it should be this {expected}"))
 }
 
-/// None for a call that is not given a summary.
-fn expected(input: &Input, answer: &Answer, report: &[u8]) -> Option<Summary> {
-    let before = *input.summary()?;
-    Some(match (input, answer) {
+/// After a call that is no arrival.
+fn expected(before: Summary, input: &Input, answer: &Answer, report: &[u8]) -> Summary {
+    match (input, answer) {
         (Input::Opening { .. }, _) => Summary::EMPTY,
-        _ if answer.refusal() != 0 => before,
-        (Input::Segment { table, association, .. }, Answer::Received(received, _)) => {
-            let ended = summaries::gains(report, received.records);
-            let ended =
-                summaries::sum(&ended.into_iter().map(|(_, gain)| gain).collect::<Vec<_>>());
-            taken(before, *association, ended, [held(table), held(&received.table)])
+        (_, Answer::Swept(swept)) if swept.refusal == 0 => {
+            lost(before, &summaries::gains(report, swept.records))
         }
-        (_, Answer::Swept(swept)) => lost(before, &summaries::gains(report, swept.records)),
         _ => before,
-    })
+    }
+}
+
+/// What the clock's work loses, if it stands, and then the segment, if it is taken.
+fn arrival(before: Summary, arrived: &Arrived, report: &[u8]) -> Summary {
+    let Received { timeouts, table, .. } = arrived.received;
+    let clocked = match arrived.reached() {
+        Reached::Nothing | Reached::Undone => return before,
+        Reached::Clock | Reached::Both => lost(before, &summaries::gains(report, *timeouts)),
+    };
+    if arrived.reached() == Reached::Clock {
+        return clocked;
+    }
+    let ended = summaries::gains(arrived.own(report), arrived.own_records());
+    let ended = summaries::sum(&ended.into_iter().map(|(_, gain)| gain).collect::<Vec<_>>());
+    taken(clocked, arrived.arrival.association, ended, [held(arrived.met()), held(table)])
 }
 
 /// Segments and octets of the open sequences.

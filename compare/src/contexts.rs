@@ -1,6 +1,6 @@
 //! What the octets of a context have to lead to, whatever both sides say: A2 of document 02.
 
-use crate::input::{Answer, Input};
+use crate::arrivals::Arrived;
 use model::*;
 
 /// What octets 1 and 1a alone are refused by, if they are. Which contexts are registered is not
@@ -24,28 +24,25 @@ fn octets(context: u16) -> Vec<u8> {
 }
 
 /// The context that a segment was accepted for: its record's, or else its place's.
-fn accepted(received: &Received, report: &[u8]) -> Option<u16> {
-    match received.records {
-        0 => received.table.places.get(received.decision.place).map(|place| place.key.context),
-        _ => Some(u16::from_be_bytes([report[3], report[4]])),
+fn accepted(arrived: &Arrived, report: &[u8]) -> Option<u16> {
+    let Received { table, decision, .. } = arrived.received;
+    match arrived.own_records() {
+        0 => table.places.get(decision.place).map(|place| place.key.context),
+        _ => arrived.own(report)[3..5].try_into().ok().map(u16::from_be_bytes),
     }
 }
 
 /// What is wrong with the answer that both sides gave, if anything is.
-pub fn wrong(input: &Input, answer: &Answer, report: &[u8]) -> Option<String> {
-    let (Input::Segment { parameter, .. }, Answer::Received(received, _)) = (input, answer) else {
-        return None;
-    };
-    let number = received.refusal;
+pub fn wrong(arrived: &Arrived, report: &[u8]) -> Option<String> {
+    let (number, parameter) = (arrived.received.refusal, arrived.arrival.parameter);
     match refusal(parameter) {
-        // These come before the octets are looked at.
-        _ if (1..=4).contains(&number) => None,
+        _ if !arrived.read() => None,
         Some(expected) if number != expected => {
             Some(format!("both answer {number}, but octets 1 and 1a are refused by {expected}\n"))
         }
         None if number == 23 => Some("both answer 23, but the context is not padded\n".into()),
         None if number == 0 => {
-            let context = accepted(received, report)?;
+            let context = accepted(arrived, report)?;
             let other = !parameter.starts_with(&octets(context));
             other.then(|| format!("both take it for context {context}, which has other octets\n"))
         }

@@ -3,7 +3,8 @@
 use std::collections::BTreeMap;
 use std::fmt;
 
-use crate::cases::Case;
+use crate::arrivals::{self, Arrived, Reached};
+use crate::cases::{self, Case, CLOCK_22};
 use crate::destinations::{self, WAYS};
 use crate::input::{Answer, Input, CALLS};
 use crate::positions::{self, Blame};
@@ -19,26 +20,32 @@ const MOST_SHOWN: usize = RULES.len() + SUMMARY_RULES.len();
 /// The refusals of each call, in its order.
 const ORDERS: [&[u8]; 6] = [
     &[12, 11],
-    &[1, 2, 3, 4, 5, 6, 23, 7, 8, 9, 10, 21, 22],
+    &cases::ORDER,
     &[1, 3, 13, 22],
     &[1, 3, 22],
     &[],
     &[1, 8, 14, 9, 15, 17, 16, 18, 19, 20],
 ];
 
-/// Pairs of refusals that cannot hold at once: a parameter over 255 has room for all its fields,
-/// an association that has no row has no total, and a context that is not registered is not one
-/// of 1998. A padded context can come with any of the others.
-const APART: [(usize, u8, u8); 3] = [(1, 4, 5), (1, 21, 22), (5, 8, 15)];
+/// Pairs of refusals that cannot hold at once: those of an arrival, and in sending a context that is
+/// not registered is not one of 1998. A padded context can come with any of the others.
+fn apart(call: usize, first: u8, second: u8) -> bool {
+    match call {
+        1 => cases::NEVER.contains(&(first, second)),
+        5 => (first, second) == (8, 15),
+        _ => false,
+    }
+}
 
 /// What a call does to a summary.
-const ROWS_MET: [&str; 6] = [
+const ROWS_MET: [&str; 7] = [
     "association 0 gains",
     "first row of an association",
     "first row, between used ones",
     "total becomes 2^63",
     "total past 2^63 stays beside one that grows",
     "losses refused only together",
+    "segment refused only with its clock's losses",
 ];
 
 /// The forms of a context, and what becomes of them.
@@ -60,9 +67,10 @@ const RECORDED: [&str; 5] =
     ["none", "origin alone", "destination alone", "both the same", "both, different"];
 
 /// Reports that are refused by 3.
-const SHORT: [&str; 4] = [
-    "segment's, one octet short",
-    "segment's, as before A3",
+const SHORT: [&str; 5] = [
+    "arrival's, one octet short",
+    "arrival's, as a clock's",
+    "arrival's, as a segment's before A6",
     "clock's or release's, one octet short",
     "clock's or release's, as before A3",
 ];
@@ -87,11 +95,15 @@ const LINES: [&str; 10] = [
 const IN_TRACES: [u8; 13] = [0, 1, 5, 6, 7, 8, 9, 10, 11, 12, 13, 21, 23];
 
 /// The positions at the ends of segments' lines. After that of the origin's length, they are later.
-const PLACED: [&str; 24] = [
+const PLACED: [&str; 25] = [
     "5 at 0", "5 at 1", "5 at 2", "5 at 3", "5 at 4", "5 at 5", "5 later", "6 at 1", "6 at 2",
     "6 at 3", "6 at 4", "23 at 1", "7 at 2", "7 at 3", "8 at 0", "8 at 1", "9 at 3", "9 at 4",
-    "9 at 5", "9 later", "0 at -", "1 at -", "10 at -", "21 at -",
+    "9 at 5", "9 later", "0 at -", "1 at -", "10 at -", "13 at -", "21 at -",
 ];
+
+/// Segments in traces, by how many sequences they time out.
+const TIMED: [&str; 6] =
+    ["taken, none", "taken, 1", "taken, more", "refused, none", "refused, 1", "refused, more"];
 
 /// What the records program tells under the lines of the events, and after them.
 const UNDER: [&str; 4] = ["delivered", "lost", "dropped", "held"];
@@ -102,13 +114,16 @@ const TOLD: [&str; 3] = ["none", "that of the origin", "another"];
 /// Records in a trace at which it stops.
 const STOPS: [u8; 4] = [16, 17, 18, 19];
 
-/// By who cuts; and the segments on the way that were first tried with their contexts padded, or
-/// that came beside a sequence that differs in the destination alone.
-const TRIPS: [&str; 4] = [
+/// By who cuts; and the segments on the way that were first tried with their contexts padded, that
+/// came beside a sequence that differs in the destination alone, or later than what was before, and
+/// the sequences of others that were timed out.
+const TRIPS: [&str; 6] = [
     "cut by the model",
     "cut by the library",
     "segments turned away padded",
     "segments beside another destination's",
+    "segments at a later time",
+    "others timed out on the way",
 ];
 
 /// The used rows that an opening comes to.
@@ -187,6 +202,8 @@ pub struct Coverage {
     beside: Tally,
     recorded: Tally,
     short: Tally,
+    arrivals: Tally,
+    standing: Tally,
     parts: Tally,
     counts: Tally,
     lengths: Tally,
@@ -197,6 +214,7 @@ pub struct Coverage {
     trace_openings: Tally,
     trace_destinations: Tally,
     trace_stops: Tally,
+    trace_timeouts: Tally,
     trips: Tally,
     trip_counts: Tally,
     headers: Tally,
@@ -205,13 +223,21 @@ pub struct Coverage {
 }
 
 fn refusals(call: usize) -> Tally {
-    let numbers = ORDERS[call].iter().map(|number| number.to_string());
+    let numbers = ORDERS[call].iter().map(|number| condition(*number));
     let title = format!("refusals of {}", CALLS[call]);
     Tally::new(&title, std::iter::once("none".to_string()).chain(numbers))
 }
 
+/// A refusal's number; in an arrival there are two of 22.
+fn condition(number: u8) -> String {
+    match number {
+        CLOCK_22 => "the clock's 22".to_string(),
+        _ => number.to_string(),
+    }
+}
+
 fn pair(first: u8, second: u8) -> String {
-    format!("{first} and {second}")
+    format!("{} and {}", condition(first), condition(second))
 }
 
 fn pairs(call: usize) -> Tally {
@@ -219,7 +245,7 @@ fn pairs(call: usize) -> Tally {
     let pairs = order.flat_map(|(i, first)| {
         let later = ORDERS[call][i + 1..].iter();
         later
-            .filter(move |second| !APART.contains(&(call, *first, **second)))
+            .filter(move |second| !apart(call, *first, **second))
             .map(move |second| pair(*first, *second))
     });
     Tally::seldom(&format!("pairs of refusals of {}", CALLS[call]), pairs)
@@ -251,6 +277,8 @@ impl Coverage {
             beside: Tally::new("segments beside another destination's sequence", besides()),
             recorded: Tally::new("addresses in records", RECORDED),
             short: Tally::new("reports refused", SHORT),
+            arrivals: Tally::new("arrivals", arrivals::SITUATIONS),
+            standing: Tally::new("refused while the clock's work stands", arrivals::standing()),
             parts: Tally::new("deliveries", ["empty", "of the parameter", "of the store"]),
             counts: Tally::new("sent, by count of segments", 1..=SEGMENTS),
             lengths: Tally::seldom("lengths of parameters", (0..=256).chain([257, 300])),
@@ -261,6 +289,7 @@ impl Coverage {
             trace_openings: Tally::seldom("openings, by their used rows", OPENINGS),
             trace_destinations: Tally::seldom("destinations in lines under events", TOLD),
             trace_stops: Tally::seldom("stops at records, by kind", STOPS),
+            trace_timeouts: Tally::seldom("segments of traces, by what is timed out", TIMED),
             trips: Tally::new("round trips", TRIPS),
             trip_counts: Tally::new("round trips, by count of segments", 1..=SEGMENTS),
             headers: Tally::new("headers from end to end, by refusal", OF_HEADERS),
@@ -284,6 +313,8 @@ impl Coverage {
             &self.beside,
             &self.recorded,
             &self.short,
+            &self.arrivals,
+            &self.standing,
             &self.counts,
             &self.lengths,
         ];
@@ -294,8 +325,9 @@ impl Coverage {
 
     fn of_traces(&self) -> impl Iterator<Item = &Tally> {
         let records = [&self.trace_records, &self.trace_destinations, &self.trace_openings];
-        let lines = [&self.trace_lines, &self.trace_positions, &self.trace_ends, &self.trace_stops];
-        lines.into_iter().chain(records)
+        let lines = [&self.trace_lines, &self.trace_positions, &self.trace_timeouts];
+        let ends = [&self.trace_ends, &self.trace_stops];
+        lines.into_iter().chain(ends).chain(records)
     }
 
     pub fn calls(&self) -> u64 {
@@ -334,7 +366,13 @@ impl Coverage {
     /// The summary and the report are as the call left them.
     pub fn count(&mut self, case: &Case, answer: &Answer, summary: &Summary, report: &[u8]) {
         let call = case.input.call();
-        let number = ORDERS[call].iter().position(|number| *number == answer.refusal());
+        let arrived = arrivals::arrived(&case.input, answer);
+        let early = arrived.as_ref().is_some_and(|it| it.reached() == Reached::Nothing);
+        let refusal = match answer.refusal() {
+            22 if early => CLOCK_22,
+            number => number,
+        };
+        let number = ORDERS[call].iter().position(|number| *number == refusal);
         self.calls.add(call, 1);
         self.refusals[call].add(number.map_or(0, |index| index + 1), 1);
         for (i, first) in case.held.iter().enumerate() {
@@ -344,33 +382,43 @@ impl Coverage {
         if let Some(rule) = case.rule {
             self.rules.add(rule, 1);
         }
-        self.rows.add(5, case.together.into());
+        if case.together && matches!(refusal, 22 | CLOCK_22) {
+            self.rows.add(if call == 1 && refusal == 22 { 6 } else { 5 }, 1);
+        }
         if let Some(before) = case.input.summary().filter(|_| call > 0 && answer.refusal() == 0) {
             self.rows(before, summary);
-        }
-        if let Input::Segment { table, parameter, .. } = &case.input {
-            self.lengths.add(parameter.len().min(258), 1);
-            self.form(table, parameter, answer.refusal());
-            // Those that come before reading are 1 to 4.
-            let read = !(1..=4).contains(&answer.refusal());
-            let blame = positions::blame(table, parameter).filter(|_| read);
-            blame.iter().for_each(|blame| self.blames.add_named(&blame.short_name()));
         }
         if answer.refusal() == 3 {
             self.short(&case.input);
         }
-        self.answered(&case.input, answer, report);
+        match &arrived {
+            Some(arrived) => self.arrived(arrived, report),
+            None => self.answered(&case.input, answer, report),
+        }
     }
 
-    /// What came of a call.
+    /// What came of an arrival.
+    fn arrived(&mut self, arrived: &Arrived, report: &[u8]) {
+        let Received { refusal, records, timeouts, .. } = *arrived.received;
+        let parameter = arrived.arrival.parameter;
+        self.lengths.add(parameter.len().min(258), 1);
+        self.form(arrived.before, parameter, refusal);
+        let blame = positions::blame(arrived.before, parameter).filter(|_| arrived.read());
+        blame.iter().for_each(|blame| self.blames.add_named(&blame.short_name()));
+        arrived.situations().iter().for_each(|name| self.arrivals.add_named(name));
+        arrived.beside().iter().for_each(|name| self.standing.add_named(name));
+        self.causes.add(5, timeouts.into());
+        self.recorded(report, records);
+        if refusal == 0 {
+            self.received(arrived);
+            self.beside(arrived);
+            self.part(arrived.part);
+        }
+    }
+
+    /// What came of another call.
     fn answered(&mut self, input: &Input, answer: &Answer, report: &[u8]) {
         match answer {
-            Answer::Received(received, part) if received.refusal == 0 => {
-                self.received(input, received);
-                self.beside(input, received);
-                self.recorded(report, received.records);
-                self.part(*part);
-            }
             Answer::Swept(swept) => {
                 let cause = if input.call() == 2 { 6 } else { 7 };
                 self.causes.add(cause - 1, swept.records.into());
@@ -423,12 +471,13 @@ impl Coverage {
     }
 
     /// Which other destinations were open beside the segment's, and what became of it.
-    fn beside(&mut self, input: &Input, received: &Received) {
-        let Input::Segment { table, association, parameter, .. } = input else { return };
-        let Some(key) = destinations::key(table, *association, parameter) else { return };
-        let Decision { kind, cause, place, .. } = received.decision;
+    fn beside(&mut self, arrived: &Arrived) {
+        let Arrival { association, parameter, .. } = arrived.arrival;
+        let table = arrived.met();
+        let Some(key) = destinations::key(table, association, parameter) else { return };
+        let Decision { kind, cause, place, .. } = arrived.received.decision;
         let what = match (kind, cause) {
-            (1, _) if table.places[place].mark == 0 => 0,
+            (1, _) if arrived.begun().is_some() => 0,
             (4, 1) => 1,
             (4, 4) if place == PLACES => 2,
             _ => 3,
@@ -454,15 +503,16 @@ impl Coverage {
 
     /// A report that was refused, at the limits.
     fn short(&mut self, input: &Input) {
-        let (first, report, least, old) = match input {
-            Input::Segment { report, .. } => (0, *report, RECORD, OLD_RECORD),
+        let lengths = match input {
+            Input::Arrival { report, .. } => [ARRIVAL - 1, SWEEP, RECORD].map(|at| *report == at),
             Input::Clock { report, .. } | Input::Release { report, .. } => {
-                (2, *report, SWEEP, OLD_SWEEP)
+                [*report == SWEEP - 1, *report == OLD_SWEEP, false]
             }
             _ => return,
         };
-        self.short.add(first, (report + 1 == least).into());
-        self.short.add(first + 1, (report == old).into());
+        let first = if input.call() == 1 { 0 } else { 3 };
+        let met = lengths.iter().position(|met| *met);
+        met.iter().for_each(|at| self.short.add(first + at, 1));
     }
 
     fn part(&mut self, part: Part) {
@@ -474,12 +524,10 @@ impl Coverage {
         self.parts.add(index, 1);
     }
 
-    fn received(&mut self, input: &Input, received: &Received) {
-        let Decision { kind, cause, place, .. } = received.decision;
-        let open = |table: &Table| table.places.iter().filter(|place| place.mark == 1).count();
-        let grown = input.table().is_some_and(|table| open(table) < open(&received.table));
+    fn received(&mut self, arrived: &Arrived) {
+        let Decision { kind, cause, place, .. } = arrived.received.decision;
         let line = match (kind, cause) {
-            (1, _) if grown => "3",
+            (1, _) if arrived.begun().is_some() => "3",
             (1, _) => "7 (saved)",
             (2, _) => "unsegmented",
             (3, _) => "7 (delivered)",
@@ -529,9 +577,13 @@ impl Coverage {
         }
     }
 
-    /// A line of the records program, if it is one under an event.
+    /// A line of the records program, if it is a segment's or one under an event.
     fn under(&mut self, line: &str) {
         let words: Vec<&str> = line.split(' ').collect();
+        if let ["segment", refusal, _, _, _, _, _, timeouts, ..] = words[..] {
+            let first = if refusal == "0" { 0 } else { 3 };
+            self.trace_timeouts.add(first + timeouts.parse().unwrap_or(0).min(2), 1);
+        }
         let [name, .., origin, destination] = words[..] else { return };
         if UNDER.contains(&name) {
             self.trace_records.add_named(name);
@@ -544,6 +596,8 @@ impl Coverage {
         self.trips.add(direction, 1);
         self.trips.add(2, made.turned_away);
         self.trips.add(3, made.beside);
+        self.trips.add(4, made.later);
+        self.trips.add(5, made.timed_out);
         made.counts.iter().for_each(|count| self.trip_counts.add(count - 1, 1));
     }
 

@@ -1,5 +1,6 @@
 //! What the addresses of a segment have to lead to, whatever both sides say: A3 of document 02.
 
+use crate::arrivals::Arrived;
 use crate::input::{Answer, Input};
 use model::*;
 
@@ -58,27 +59,24 @@ fn addresses(key: &Key) -> Vec<u8> {
     [field(&key.origin), field(&key.destination)].concat()
 }
 
-/// What is wrong with the answer that both sides gave, if anything is.
-pub fn wrong(input: &Input, answer: &Answer, report: &[u8]) -> Option<String> {
-    let wrong = match (input, answer) {
-        _ if answer.refusal() != 0 => None,
-        (Input::Segment { table, association, parameter, .. }, Answer::Received(received, _)) => {
-            match key(table, *association, parameter) {
-                Some(key) => segment(table, &key, received, report),
-                None => Some("it is accepted, and its fields cannot be read".into()),
-            }
-        }
-        (Input::Clock { table, .. } | Input::Release { table, .. }, Answer::Swept(swept)) => {
-            swept_wrong(table, swept, report)
-        }
-        _ => None,
+/// What is wrong with an arrival that both sides answered, if anything is.
+pub fn wrong(arrived: &Arrived, report: &[u8]) -> Option<String> {
+    if arrived.received.refusal != 0 {
+        return None;
+    }
+    let Arrival { association, parameter, .. } = arrived.arrival;
+    let wrong = match key(arrived.before, association, parameter) {
+        Some(key) => segment(arrived, &key, report),
+        None => Some("it is accepted, and its fields cannot be read".into()),
     };
     wrong.map(|wrong| format!("both are wrong: {wrong}\n"))
 }
 
-/// A segment concerns the place of its key and no other; its record and its place have its key.
-fn segment(table: &Table, key: &Key, received: &Received, report: &[u8]) -> Option<String> {
-    let Received { table: after, decision, records, .. } = received;
+/// A segment concerns the place of its key and no other, of those that the clock's work has left;
+/// its record and its place have its key.
+fn segment(arrived: &Arrived, key: &Key, report: &[u8]) -> Option<String> {
+    let Received { table: after, decision, .. } = arrived.received;
+    let (table, record) = (arrived.met(), &arrived.own(report)[..RECORD]);
     let own = table.places.iter().position(|place| place.mark == 1 && place.key == *key);
     let free = |index: usize| table.places.get(index).is_some_and(|place| place.mark == 0);
     let fits = match (decision.kind, own) {
@@ -97,22 +95,25 @@ fn segment(table: &Table, key: &Key, received: &Received, report: &[u8]) -> Opti
         Some("another sequence's place changes".into())
     } else if after.places.get(touched).is_some_and(|p| p.mark == 1 && p.key != *key) {
         Some("the place has another key".into())
-    } else if *records > 0 && !recorded(&report[..RECORD], kind, key) {
+    } else if arrived.own_records() > 0 && !recorded(record, kind, key) {
         Some("the record is of another kind or key".into())
     } else {
         None
     }
 }
 
-/// Each place that is open no more has a record, in place order.
-fn swept_wrong(table: &Table, swept: &Swept, report: &[u8]) -> Option<String> {
+/// What is wrong with a clock or a release, if anything is: each place that is open no more has a
+/// record, in place order.
+pub fn swept_wrong(input: &Input, answer: &Answer, report: &[u8]) -> Option<String> {
+    let (Some(table), Answer::Swept(swept)) = (input.table(), answer) else { return None };
     let pairs = table.places.iter().zip(&swept.table.places);
     let ended: Vec<&Place> =
         pairs.filter(|(old, new)| old.mark != new.mark).map(|(old, _)| old).collect();
     let records = report.chunks(RECORD).take(swept.records.into());
     let good = ended.len() == swept.records.into()
         && ended.iter().zip(records).all(|(place, record)| recorded(record, LOST, &place.key));
-    (!good).then(|| "the records are not those of the places that have ended".into())
+    let wrong = "both are wrong: the records are not those of the places that have ended\n";
+    (!good).then(|| wrong.into())
 }
 
 fn recorded(record: &[u8], kind: u8, key: &Key) -> bool {

@@ -51,6 +51,25 @@ fn table() -> Table {
     table
 }
 
+/// T is 40. Sequence k is in place 5k modulo 16 and 2k ticks old, so that places and ages are in
+/// different orders.
+fn aged(clock: u32, open: u8) -> Table {
+    let mut table = Table { timer: 40, clock, places: Default::default(), ..table() };
+    for k in 0..open {
+        let key = Key {
+            association: [9, 0, 65_535][usize::from(k) % 3],
+            context: 3,
+            reference: k,
+            ..Key::default()
+        };
+        let start = clock.wrapping_sub(2 * u32::from(k));
+        let place = Place { key, octets: 10, start, mark: 1, remaining: 2, ..Place::default() };
+        table.places[5 * usize::from(k) % PLACES] =
+            Place { segments: 1, instruction: k % 4, ..place };
+    }
+    table
+}
+
 /// The same with a context of 2000 in two octets too: 256.
 fn long_table() -> Table {
     let mut table = table();
@@ -112,7 +131,9 @@ impl<'p, 'a> Exhaustive<'p, 'a> {
         self.destinations()?;
         self.rooms()?;
         self.bits()?;
-        self.rows()
+        self.rows()?;
+        self.steps()?;
+        self.reports()
     }
 
     /// The refusal.
@@ -123,6 +144,7 @@ impl<'p, 'a> Exhaustive<'p, 'a> {
         Ok(answer.refusal())
     }
 
+    /// At the table's own time.
     fn segment(
         &mut self,
         table: Table,
@@ -130,9 +152,9 @@ impl<'p, 'a> Exhaustive<'p, 'a> {
         association: u16,
         parameter: Vec<u8>,
     ) -> Result<u8, String> {
-        let (store, report) = (STORE, RECORD);
+        let (store, report, time) = (STORE, ARRIVAL, table.clock);
         let blame = positions::blame(&table, &parameter);
-        let input = Input::Segment { table, summary, store, report, association, parameter };
+        let input = Input::Arrival { table, summary, store, report, time, association, parameter };
         let refusal = self.run(input)?;
         if let Some(blame) = blame {
             *self.blames.entry(blame).or_default() += 1;
@@ -321,6 +343,67 @@ impl<'p, 'a> Exhaustive<'p, 'a> {
         for association in 0..=u16::MAX {
             let parameter = vec![0x83, 0x80, 0x41, 0x85, 0xAA];
             self.segment(table(), crowded(20), association, parameter)?;
+        }
+        Ok(())
+    }
+
+    /// Every step up to more than T and back by as much, and those around 2^31, each with segments
+    /// of each sequence and of none; from clocks that turn on the way and from one that does not.
+    fn steps(&mut self) -> Result<(), String> {
+        let near = (0..=45).flat_map(|step: u32| [step, step.wrapping_neg()]);
+        let far = [(1 << 31) - 1, 1 << 31, (1 << 31) + 1];
+        let steps: Vec<u32> = near.chain(far).collect();
+        for clock in [5, u32::MAX - 20, (1 << 31) - 10] {
+            for (step, open) in steps.iter().flat_map(|step| [(*step, 15), (*step, 16)]) {
+                self.step(aged(clock, open), clock.wrapping_add(step))?;
+            }
+        }
+        Ok(())
+    }
+
+    fn step(&mut self, table: Table, time: u32) -> Result<(), String> {
+        let (store, report) = (STORE, ARRIVAL);
+        // Unsegmented, cut and not registered; then the last, the next, another first one and one
+        // with too many remaining of each sequence and of one that is not open.
+        let mut parameters = vec![vec![0x83, 0x80, 0xC0], vec![0x83], vec![0x85]];
+        for octet3 in [0x00, 0x01, 0x41, 0x0A] {
+            let references = 0x80..=0x80 + PLACES as u8;
+            parameters.extend(references.map(|octet3a| vec![0x83, 0x81, octet3, octet3a, 0xAA]));
+        }
+        for (parameter, association) in
+            parameters.into_iter().flat_map(|p| [9, 0, 65_535].map(|who| (p.clone(), who)))
+        {
+            let summary = summary();
+            self.run(Input::Arrival {
+                table,
+                summary,
+                store,
+                report,
+                time,
+                association,
+                parameter,
+            })?;
+        }
+        Ok(())
+    }
+
+    /// Every length of an arrival's report up to more than enough, with nothing due and with all.
+    fn reports(&mut self) -> Result<(), String> {
+        for (report, step) in (0..=ARRIVAL + 9).flat_map(|report| [(report, 0), (report, 40)]) {
+            let (table, store, association) = (aged(5, 16), STORE, 9);
+            let (summary, time, parameter) = (summary(), 5 + step, vec![0x83, 0x80, 0xC0, 0xAA]);
+            let refusal = self.run(Input::Arrival {
+                table,
+                summary,
+                store,
+                report,
+                time,
+                association,
+                parameter,
+            })?;
+            if (refusal == 0) != (report >= 901) {
+                return Err(format!("both answer {refusal} with a report of {report}\n"));
+            }
         }
         Ok(())
     }

@@ -14,11 +14,12 @@ pub enum Input {
         clock: u32,
     },
     /// `store` and `report` are lengths, here and below: what the areas hold is never looked at.
-    Segment {
+    Arrival {
         table: Table,
         summary: Box<Summary>,
         store: usize,
         report: usize,
+        time: u32,
         association: u16,
         parameter: Vec<u8>,
     },
@@ -49,7 +50,7 @@ pub enum Input {
     },
 }
 
-pub const CALLS: [&str; 6] = ["opening", "segment", "clock", "release", "delivery", "sending"];
+pub const CALLS: [&str; 6] = ["opening", "arrival", "clock", "release", "delivery", "sending"];
 
 #[derive(Clone, Copy, PartialEq, Eq)]
 pub enum Answer {
@@ -66,7 +67,7 @@ impl Input {
     pub fn call(&self) -> usize {
         match self {
             Input::Opening { .. } => 0,
-            Input::Segment { .. } => 1,
+            Input::Arrival { .. } => 1,
             Input::Clock { .. } => 2,
             Input::Release { .. } => 3,
             Input::Delivery { .. } => 4,
@@ -77,7 +78,7 @@ impl Input {
     pub fn table(&self) -> Option<&Table> {
         match self {
             Input::Opening { .. } | Input::Delivery { .. } => None,
-            Input::Segment { table, .. }
+            Input::Arrival { table, .. }
             | Input::Clock { table, .. }
             | Input::Release { table, .. }
             | Input::Sending { table, .. } => Some(table),
@@ -88,7 +89,7 @@ impl Input {
         match self {
             Input::Delivery { .. } | Input::Sending { .. } => None,
             Input::Opening { summary, .. }
-            | Input::Segment { summary, .. }
+            | Input::Arrival { summary, .. }
             | Input::Clock { summary, .. }
             | Input::Release { summary, .. } => Some(summary),
         }
@@ -162,8 +163,8 @@ impl fmt::Display for Input {
             Input::Opening { registry, timer, clock, .. } => {
                 writeln!(f, "registry: {}\ntimer: {timer}\nclock: {clock}", hex(registry))
             }
-            Input::Segment { store, report, association, parameter, .. } => {
-                writeln!(f, "store length: {store}\nreport length: {report}")?;
+            Input::Arrival { store, report, time, association, parameter, .. } => {
+                writeln!(f, "store length: {store}\nreport length: {report}\ntime: {time}")?;
                 writeln!(f, "association: {association}\nparameter: {}", hex(parameter))
             }
             Input::Clock { report, time, .. } => {
@@ -189,9 +190,9 @@ impl fmt::Display for Answer {
         match self {
             Answer::Opened(opened) => write!(f, "refusal {}", opened.refusal),
             Answer::Received(received, part) => {
-                let Received { refusal, records, decision, position, .. } = received;
+                let Received { refusal, records, decision, position, timeouts, .. } = received;
                 write!(f, "refusal {refusal}, position {position}, records {records}, ")?;
-                write!(f, "{decision:?}, {part:?}")
+                write!(f, "the clock's {timeouts}, {decision:?}, {part:?}")
             }
             Answer::Swept(Swept { refusal, records, .. }) => {
                 write!(f, "refusal {refusal}, records {records}")

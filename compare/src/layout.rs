@@ -25,6 +25,7 @@ const _: () = {
     assert!(offset_of!(Received, refusal) == 1_032 && offset_of!(Received, records) == 1_033);
     // And the header's EGRYNNOL_NOWHERE.
     assert!(offset_of!(Received, position) == 1_034 && NOWHERE == 65_535);
+    assert!(offset_of!(Received, timeouts) == 1_036);
     assert!(size_of::<Swept>() == 1_004 && offset_of!(Swept, refusal) == 1_000);
     assert!(offset_of!(Swept, records) == 1_001);
     assert!(size_of::<Opened>() == 1_004 && offset_of!(Opened, refusal) == 1_000);
@@ -37,7 +38,8 @@ const _: () = {
     assert!(offset_of!(Part, source) == 16);
     assert!(size_of::<Summary>() == 4_096 && offset_of!(Summary, association) == 512);
     assert!(offset_of!(Summary, totals) == 1_024 && size_of::<[u64; ROWS]>() == 512);
-    // The header's EGRYNNOL_REPORT_SEGMENT and EGRYNNOL_REPORT_SWEEP, and where a record's addresses are.
-    assert!(RECORD == 53 && SWEEP == 848);
+    // The header's EGRYNNOL_RECORD, EGRYNNOL_REPORT_SWEEP and EGRYNNOL_REPORT_ARRIVAL, and where a
+    // record's addresses are.
+    assert!(RECORD == 53 && SWEEP == 848 && ARRIVAL == 901);
     assert!(ORIGIN_AT == 11 && DESTINATION_AT == 32);
 };

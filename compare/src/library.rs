@@ -7,7 +7,7 @@ use model::*;
 
 #[link(name = "egrynnol", kind = "static")]
 extern "C" {
-    #[link_name = "egrynnol_3_opening"]
+    #[link_name = "egrynnol_4_opening"]
     pub fn egrynnol_opening(
         summary: *mut Summary,
         registry: *const u8,
@@ -15,19 +15,20 @@ extern "C" {
         timer: u32,
         clock: u32,
     ) -> Opened;
-    #[link_name = "egrynnol_3_segment"]
-    pub fn egrynnol_segment(
+    #[link_name = "egrynnol_4_arrival"]
+    pub fn egrynnol_arrival(
         table: Table,
         summary: *mut Summary,
         store: *mut u8,
         store_length: usize,
         report: *mut u8,
         report_length: usize,
+        time: u32,
         association: u16,
         parameter: *const u8,
         parameter_length: usize,
     ) -> Received;
-    #[link_name = "egrynnol_3_clock"]
+    #[link_name = "egrynnol_4_clock"]
     pub fn egrynnol_clock(
         table: Table,
         summary: *mut Summary,
@@ -35,7 +36,7 @@ extern "C" {
         length: usize,
         time: u32,
     ) -> Swept;
-    #[link_name = "egrynnol_3_release"]
+    #[link_name = "egrynnol_4_release"]
     pub fn egrynnol_release(
         table: Table,
         summary: *mut Summary,
@@ -43,7 +44,7 @@ extern "C" {
         length: usize,
         association: u16,
     ) -> Swept;
-    #[link_name = "egrynnol_3_delivery"]
+    #[link_name = "egrynnol_4_delivery"]
     pub fn egrynnol_delivery(
         decision: Decision,
         parameter: *const u8,
@@ -51,7 +52,7 @@ extern "C" {
         store: *const u8,
         store_length: usize,
     ) -> Part;
-    #[link_name = "egrynnol_3_sending"]
+    #[link_name = "egrynnol_4_sending"]
     pub fn egrynnol_sending(
         table: Table,
         request: Request,
@@ -75,23 +76,24 @@ impl Side for Library {
         unsafe { egrynnol_opening(summary, registry.as_ptr(), registry.len(), timer, clock) }
     }
 
-    fn segment(
+    fn arrival(
         &self,
         table: Table,
         summary: &mut Summary,
         store: &mut [u8],
         report: &mut [u8],
-        association: u16,
-        parameter: &[u8],
+        arrival: Arrival,
     ) -> Received {
+        let Arrival { time, association, parameter } = arrival;
         unsafe {
-            egrynnol_segment(
+            egrynnol_arrival(
                 table,
                 summary,
                 store.as_mut_ptr(),
                 store.len(),
                 report.as_mut_ptr(),
                 report.len(),
+                time,
                 association,
                 parameter.as_ptr(),
                 parameter.len(),

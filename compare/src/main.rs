@@ -1,6 +1,7 @@
 //! Compares the model with the proved library, call by call, and shows that it can fail.
 
 mod arguments;
+mod arrivals;
 mod billed;
 mod cases;
 mod contexts;

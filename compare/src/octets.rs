@@ -128,8 +128,9 @@ impl Shape for Received {
             refusal: fields.octet(),
             records: fields.octet(),
             position: fields.short(),
+            timeouts: fields.octet(),
         };
-        fields.pass::<4>();
+        fields.pass::<3>();
         received
     }
 }
@@ -215,6 +216,7 @@ mod tests {
         assert_eq!(place, offset_of!(Received, decision) as u8);
         let position = counted::<Received>().0.position.to_le_bytes()[0];
         assert_eq!(position, offset_of!(Received, position) as u8);
+        assert_eq!(counted::<Received>().0.timeouts, offset_of!(Received, timeouts) as u8);
     }
 
     /// Each field is read where it lies.

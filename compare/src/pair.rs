@@ -3,13 +3,13 @@
 use crate::input::{hex, Answer, Input};
 use crate::random::Random;
 use crate::side::Side;
-use crate::{billed, contexts, destinations, positions, summaries};
-use model::{Summary, ROWS, SWEEP};
+use crate::{arrivals, billed, contexts, destinations, positions, summaries};
+use model::{Arrival, Summary, ARRIVAL, ROWS};
 
 /// Octets before and after each lent area, which no call may write.
 const GUARD: usize = 64;
 const LONGEST_STORE: usize = 36_864;
-pub const LONGEST_REPORT: usize = SWEEP + GUARD;
+pub const LONGEST_REPORT: usize = ARRIVAL + GUARD;
 const LONGEST_AREA: usize = 384;
 
 /// A summary between guards of its own.
@@ -34,6 +34,8 @@ pub struct Pair<'a> {
     pub sides: [&'a dyn Side; 2],
     lent: [Lent; 2],
     noise: Vec<u8>,
+    /// Where in the noise the last call's report is from.
+    start: usize,
 }
 
 impl<'a> Pair<'a> {
@@ -46,12 +48,12 @@ impl<'a> Pair<'a> {
             report: vec![0; LONGEST_REPORT + 2 * GUARD],
             area: vec![0; LONGEST_AREA + 2 * GUARD],
         };
-        Pair { sides, lent: [lent(), lent()], noise: random.octets(1 << 16) }
+        Pair { sides, lent: [lent(), lent()], noise: random.octets(1 << 16), start: 0 }
     }
 
     /// The answer both sides gave, or what differs.
     pub fn run(&mut self, input: &Input, random: &mut Random) -> Result<Answer, String> {
-        let start = self.refill(random);
+        self.refill(random);
         self.lend(input.summary(), random);
         let [left, right] = &mut self.lent;
         let answers = [left.call(self.sides[0], input), right.call(self.sides[1], input)];
@@ -63,12 +65,12 @@ impl<'a> Pair<'a> {
         if same {
             Ok(answers[1])
         } else {
-            Err(self.difference(input, answers, start))
+            Err(self.difference(input, answers))
         }
     }
 
-    /// New contents for the short areas, so that a stray write is seen; where in the noise from.
-    fn refill(&mut self, random: &mut Random) -> usize {
+    /// New contents for the short areas, so that a stray write is seen.
+    fn refill(&mut self, random: &mut Random) {
         let Lent { report, area, .. } = &self.lent[0];
         let start = random.below(self.noise.len() - report.len() - area.len());
         let (report, area) = (start + report.len(), start + report.len() + area.len());
@@ -76,7 +78,7 @@ impl<'a> Pair<'a> {
             lent.report.copy_from_slice(&self.noise[start..report]);
             lent.area.copy_from_slice(&self.noise[report..area]);
         }
-        start
+        self.start = start;
     }
 
     /// The summary as it comes, and new guards. A call that is not given one gets none to change.
@@ -92,11 +94,19 @@ impl<'a> Pair<'a> {
 
     /// The answer that both sides gave to the last call, by the rules of the requests.
     pub fn judge(&self, input: &Input, answer: &Answer) -> Result<(), String> {
-        let report = self.report();
-        let wrong = billed::wrong(input, answer, self.summary(), report)
-            .or_else(|| contexts::wrong(input, answer, report))
-            .or_else(|| positions::wrong(input, answer))
-            .or_else(|| destinations::wrong(input, answer, report));
+        let (summary, report) = (self.summary(), self.report());
+        let report_before = &self.report_before()[GUARD..];
+        let left = arrivals::Left { summary, report, report_before };
+        let arrived = arrivals::arrived(input, answer);
+        let wrong = match &arrived {
+            Some(arrived) => arrivals::wrong(arrived, &left)
+                .or_else(|| contexts::wrong(arrived, report))
+                .or_else(|| positions::wrong(arrived))
+                .or_else(|| destinations::wrong(arrived, report)),
+            None => destinations::swept_wrong(input, answer, report),
+        };
+        let wrong =
+            wrong.or_else(|| billed::wrong(input, answer, arrived.as_ref(), summary, report));
         match wrong {
             None => Ok(()),
             Some(wrong) => Err(format!("{input}{wrong}")),
@@ -113,7 +123,12 @@ impl<'a> Pair<'a> {
         &self.lent[1].report[GUARD..]
     }
 
-    fn difference(&self, input: &Input, answers: [Answer; 2], start: usize) -> String {
+    /// The report with its guards as the last call found it.
+    fn report_before(&self) -> &[u8] {
+        &self.noise[self.start..][..self.lent[1].report.len()]
+    }
+
+    fn difference(&self, input: &Input, answers: [Answer; 2]) -> String {
         let [left, right] = &self.lent;
         let mut text = format!("{input}model answers:   {}\n", answers[0]);
         text += &format!("library answers: {}\n", answers[1]);
@@ -123,8 +138,7 @@ impl<'a> Pair<'a> {
             text += &octets_difference(name, left, right);
         }
         if left.report != right.report {
-            let before = &self.noise[start..][..left.report.len()];
-            text += &format!("report before:   {}\n", hex(before));
+            text += &format!("report before:   {}\n", hex(self.report_before()));
             text += &format!("report, model:   {}\n", hex(&left.report));
             text += &format!("report, library: {}\n", hex(&right.report));
         }
@@ -166,11 +180,18 @@ impl Lent {
             Input::Opening { registry, timer, clock, .. } => {
                 Answer::Opened(side.opening(summary, registry, *timer, *clock))
             }
-            Input::Segment {
-                table, store: length, report: room, association, parameter, ..
+            Input::Arrival {
+                table,
+                store: length,
+                report: room,
+                time,
+                association,
+                parameter,
+                ..
             } => {
                 let (store, report) = (&mut store[..*length], &mut report[..*room]);
-                let got = side.segment(*table, summary, store, report, *association, parameter);
+                let arrival = Arrival { time: *time, association: *association, parameter };
+                let got = side.arrival(*table, summary, store, report, arrival);
                 Answer::Received(got, side.delivery(got.decision, parameter, store))
             }
             Input::Clock { table, report: room, time, .. } => {

@@ -2,7 +2,7 @@
 
 use std::ops::RangeInclusive;
 
-use crate::input::{Answer, Input};
+use crate::arrivals::Arrived;
 use model::*;
 
 /// An octet at fault and the number by which it is refused. For 5 it is the first that is missing.
@@ -141,16 +141,11 @@ fn placed(refusal: u8) -> bool {
 }
 
 /// What is wrong with the answer that both sides gave, if anything is.
-pub fn wrong(input: &Input, answer: &Answer) -> Option<String> {
-    let (Input::Segment { table, parameter, .. }, Answer::Received(received, _)) = (input, answer)
-    else {
-        return None;
-    };
-    let given = (received.refusal, received.position);
-    let blame = match given.0 {
-        // These come before the octets are looked at.
-        1..=4 => None,
-        _ => blame(table, parameter),
+pub fn wrong(arrived: &Arrived) -> Option<String> {
+    let given = (arrived.received.refusal, arrived.received.position);
+    let blame = match arrived.read() {
+        true => blame(arrived.before, arrived.arrival.parameter),
+        false => None,
     };
     let good = match blame {
         Some(blame) => given == (blame.number, blame.position as u16),

@@ -31,7 +31,7 @@ const BUFFER: usize = 131_072;
 #[derive(Clone, Copy)]
 enum Call {
     Opening,
-    Segment,
+    Arrival,
     Clock,
     Release,
     Delivery,
@@ -206,20 +206,21 @@ impl Side for Library {
         })
     }
 
-    fn segment(
+    fn arrival(
         &self,
         table: Table,
         summary: &mut Summary,
         store: &mut [u8],
         report: &mut [u8],
-        association: u16,
-        parameter: &[u8],
+        arrival: Arrival,
     ) -> Received {
-        let values: [&[u8]; 2] = [&table_octets(&table), &association.to_le_bytes()];
+        let Arrival { time, association, parameter } = arrival;
+        let values: [&[u8]; 3] =
+            [&table_octets(&table), &time.to_le_bytes(), &association.to_le_bytes()];
         with_summary(summary, |summary| {
             let written =
                 &mut [(Lent::Summary, summary), (Lent::Store, store), (Lent::Report, report)];
-            call(Call::Segment, &values, &[(Lent::Parameter, parameter)], written)
+            call(Call::Arrival, &values, &[(Lent::Parameter, parameter)], written)
         })
     }
 

@@ -158,14 +158,14 @@ mod tests {
         }
     }
 
-    /// What A1 asks of the rows, A2 of the contexts, A3 of the destinations and A5 of the positions
-    /// is asked of both sides, so that a break they share is found too.
+    /// What A1 asks of the rows, A2 of the contexts, A3 of the destinations, A5 of the positions and
+    /// A6 of the arrivals is asked of both sides, so that a break they share is found too.
     #[test]
     fn shared_breaks_of_the_requests_are_found() {
         let mut arguments = arguments();
         arguments.only_calls = true;
         let first = Fault::ALL.iter().position(|fault| *fault == Fault::RefusedCounted);
-        let last = Fault::ALL.iter().position(|fault| *fault == Fault::NowhereOctet);
+        let last = Fault::ALL.iter().position(|fault| *fault == Fault::SweepReport);
         for fault in &Fault::ALL[first.unwrap_or(0)..=last.unwrap_or(0)] {
             let other: &'static Model = Box::leak(Box::new(Model::with(*fault)));
             let mut run = Run { other, ..Run::new(&arguments, *other) };
@@ -173,12 +173,12 @@ mod tests {
         }
     }
 
-    /// What A5 asks of the programs' lines is asked of both sides too.
+    /// What A5 and A6 ask of the programs' lines is asked of both sides too.
     #[test]
     fn shared_breaks_of_the_lines_are_found() {
         let mut arguments = arguments();
         arguments.only_traces = true;
-        let first = Fault::ALL.iter().position(|fault| *fault == Fault::PositionUntold);
+        let first = Fault::ALL.iter().position(|fault| *fault == Fault::TimeoutsUntold);
         let last = Fault::ALL.iter().position(|fault| *fault == Fault::PositionLast);
         for fault in &Fault::ALL[first.unwrap_or(0)..=last.unwrap_or(0)] {
             let model = Model::with(*fault);

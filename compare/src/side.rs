@@ -4,14 +4,13 @@ use model::*;
 
 pub trait Side {
     fn opening(&self, summary: &mut Summary, registry: &[u8], timer: u32, clock: u32) -> Opened;
-    fn segment(
+    fn arrival(
         &self,
         table: Table,
         summary: &mut Summary,
         store: &mut [u8],
         report: &mut [u8],
-        association: u16,
-        parameter: &[u8],
+        arrival: Arrival,
     ) -> Received;
     fn clock(&self, table: Table, summary: &mut Summary, report: &mut [u8], time: u32) -> Swept;
     fn release(
@@ -38,16 +37,15 @@ impl Side for Model {
         self.opening(summary, registry, timer, clock)
     }
 
-    fn segment(
+    fn arrival(
         &self,
         table: Table,
         summary: &mut Summary,
         store: &mut [u8],
         report: &mut [u8],
-        association: u16,
-        parameter: &[u8],
+        arrival: Arrival,
     ) -> Received {
-        self.segment(table, summary, store, report, association, parameter)
+        self.arrival(table, summary, store, report, arrival)
     }
 
     fn clock(&self, table: Table, summary: &mut Summary, report: &mut [u8], time: u32) -> Swept {

@@ -168,15 +168,30 @@ pub fn crowd_out(random: &mut Random, summary: &mut Summary, who: u16) {
 /// Sets a row's totals around what it is to gain: each can take it, if need be just so, but one or
 /// more cannot where `over` is asked for. A total that gains nothing is any.
 pub fn limit(random: &mut Random, summary: &mut Summary, row: usize, gain: &Gain, over: bool) {
+    limit_after(random, summary, row, [&[0; TOTALS.len()], gain], over);
+}
+
+/// The same with two gains, of which the totals can take the first one in any case.
+pub fn limit_after(
+    random: &mut Random,
+    summary: &mut Summary,
+    row: usize,
+    [first, gain]: [&Gain; 2],
+    over: bool,
+) {
     let gaining: Vec<usize> = (0..gain.len()).filter(|at| gain[*at] > 0).collect();
     let worst = over.then(|| random.pick(&gaining));
     for (at, column) in summary.totals.iter_mut().enumerate() {
-        let most = TOTAL_MOST - gain[at];
+        let most = TOTAL_MOST - first[at] - gain[at];
         let past = random.pick(&[most + 1, most + 1, TOTAL_MOST, TOTAL_MOST + 1, u64::MAX]);
-        column[row] = match gain[at] {
+        let total = match gain[at] {
             0 => large(random),
             _ if Some(at) == worst || over && random.one_in(6) => past,
             _ => random.pick(&[most, most, most - 1, column[row].min(most)]),
+        };
+        column[row] = match first[at] {
+            0 => total,
+            first => total.min(TOTAL_MOST - first),
         };
     }
 }

@@ -6,6 +6,7 @@ use std::path::PathBuf;
 use std::process::{Command, Stdio};
 use std::thread;
 
+use crate::arrivals;
 use crate::cases::{damage_wire, end_inside};
 use crate::input::hex;
 use crate::positions;
@@ -122,17 +123,31 @@ impl Scribe<'_> {
             scene.association = *many;
             (scene.wire.new, scene.wire.remaining, scene.wire.reference) = (true, 0, None);
         }
-        let parameter = self.parameter(&mut scene.wire);
+        let (time, parameter) = (self.time(), &self.parameter(&mut scene.wire));
         self.trace.push(33);
+        self.trace.extend(time.to_be_bytes());
         self.trace.extend(scene.association.to_be_bytes());
         self.trace.push(parameter.len() as u8);
-        self.trace.extend(&parameter);
+        self.trace.extend(parameter);
         let rest = self.random.octets(PARAMETER - parameter.len());
         self.trace.extend(rest);
         let Scribe { table, summary, store, report, .. } = self;
-        let association = scene.association;
-        *table =
-            Model::PLAIN.segment(*table, summary, store, report, association, &parameter).table;
+        let arrival = Arrival { time, association: scene.association, parameter };
+        *table = Model::PLAIN.arrival(*table, summary, store, report, arrival).table;
+    }
+
+    /// A segment's time: mostly the table's own or soon after it, seldom so late that something is
+    /// due, and now and then before it.
+    fn time(&mut self) -> u32 {
+        let Table { clock, timer, .. } = self.table;
+        let step = match self.random.weighted(&[60, 30, 3, 1, 1]) {
+            0 => 0,
+            1 => self.random.below(4) as u32,
+            2 => timer / 2,
+            3 => self.random.pick(&[timer, timer, timer.saturating_sub(1), (1 << 31) - 1]),
+            _ => self.random.pick(&[1 << 31, u32::MAX]),
+        };
+        clock.wrapping_add(step)
     }
 
     /// Mostly good, as the wire is; else damaged, and now and then any octets.
@@ -247,7 +262,7 @@ pub struct Trace {
 }
 
 pub fn trace(random: &mut Random) -> Trace {
-    let (table, store, report) = (Table::default(), vec![0; STORE], vec![0; SWEEP]);
+    let (table, store, report) = (Table::default(), vec![0; STORE], vec![0; ARRIVAL]);
     let (trace, registry) = (Vec::new(), Vec::new());
     let crowded = random.one_in(4);
     let (many, unknown, summary) = (random.one_in(4).then_some(0), None, Summary::EMPTY);
@@ -278,7 +293,8 @@ pub fn trace(random: &mut Random) -> Trace {
 pub fn compare(model: &Model, other: &Replayer, trace: &[u8]) -> Result<[String; 3], String> {
     let one = |which| compare_one(model, other, trace, which);
     let texts = [one(0)?, one(1)?, one(2)?];
-    if let Some(wrong) = positions::misprinted(&texts[0], &texts[1]) {
+    let wrong = positions::misprinted(&texts[0], &texts[1]);
+    if let Some(wrong) = wrong.or_else(|| arrivals::misprinted(&texts[1])) {
         return Err(format!("{wrong}trace: {}\n", hex(trace)));
     }
     let told: Vec<_> = openings(&texts[2]).into_iter().map(|(_, rows)| rows).collect();

@@ -1,5 +1,6 @@
-//! Round trips: data cut by one side, joined by the other, and the same again.
+//! Round trips: data cut by one side, joined by the other while time passes, and the same again.
 
+use crate::arrivals::{self, ticks, Clocked};
 use crate::input::{hex, table_hex};
 use crate::random::Random;
 use crate::side::Side;
@@ -15,9 +16,19 @@ struct Trip {
     /// The segments not yet received, the last one first.
     segments: Vec<Vec<u8>>,
     count: usize,
+    /// When its sequence was begun.
+    begun: Option<u32>,
+}
+
+/// What the receiving end has.
+struct Desk {
+    table: Table,
+    summary: Summary,
+    store: Vec<u8>,
 }
 
 /// What came of some sequences at once.
+#[derive(Default)]
 pub struct Made {
     /// The segments of each.
     pub counts: Vec<usize>,
@@ -25,6 +36,10 @@ pub struct Made {
     pub turned_away: u64,
     /// Segments that came while a sequence was open that differs in the destination alone.
     pub beside: u64,
+    /// Segments that came later than what was before them.
+    pub later: u64,
+    /// Sequences of others that were timed out on the way.
+    pub timed_out: u64,
 }
 
 pub struct Ends<'a> {
@@ -36,9 +51,10 @@ impl Ends<'_> {
     /// Some sequences at once, one of them of `n` octets.
     pub fn go(&self, random: &mut Random, n: usize) -> Result<Made, String> {
         let (count, open) = (random.within(1..=8), random.within(0..=13));
-        let mut table = tables::sound_with(random, count, open);
-        let mut summary = summaries::roomy(random, &table);
-        let mut expected = summary;
+        let table = tables::sound_with(random, count, open);
+        let (summary, store) = (summaries::roomy(random, &table), random.octets(STORE));
+        let mut desk = Desk { table, summary, store };
+        let mut expected = desk.summary;
         let mut trips = Vec::new();
         for number in 0..random.within(1..=3) {
             let n = if number == 0 { n } else { other_length(random) };
@@ -47,30 +63,50 @@ impl Ends<'_> {
             trip.bill(&mut expected);
             trips.push(trip);
         }
-        let mut made = Made { counts: Vec::new(), turned_away: 0, beside: 0 };
-        let mut store = random.octets(STORE);
+        let made = self.receive(random, &mut desk, &mut expected, trips)?;
+        match rows(&desk.summary) == rows(&expected) {
+            true => Ok(made),
+            false => Err(format!(
+                "round trip: all was delivered, but the {}expected is the {}",
+                summaries::text(&desk.summary),
+                summaries::text(&expected)
+            )),
+        }
+    }
+
+    /// Every segment, in turn of any of the trips. What is timed out meanwhile is expected too.
+    fn receive(
+        &self,
+        random: &mut Random,
+        desk: &mut Desk,
+        expected: &mut Summary,
+        mut trips: Vec<Trip>,
+    ) -> Result<Made, String> {
+        let mut made = Made::default();
         while !trips.is_empty() {
             let at = random.below(trips.len());
-            if random.one_in(4) {
-                made.turned_away += self.turn_away(table, summary, &store, &trips[at])?;
+            let turned_away = random.one_in(4).then(|| padded(trips[at].segments.last())).flatten();
+            let time = time(random, &desk.table, &trips);
+            let clocked = arrivals::clocked(&desk.table, time).expect("a good step");
+            made.later += u64::from(time != desk.table.clock);
+            made.timed_out += clocked.ended.len() as u64;
+            lose(expected, &clocked);
+            if let Some(segment) = turned_away {
+                self.turn_away(desk, &clocked, &trips[at], &segment)?;
+                made.turned_away += 1;
+                continue;
             }
-            made.beside += u64::from(destinations::beside(&table, &trips[at].key).next().is_some());
-            if let Some(data) = self.join(&mut table, &mut summary, &mut store, &mut trips[at])? {
+            let beside = destinations::beside(&clocked.table, &trips[at].key).next();
+            made.beside += u64::from(beside.is_some());
+            if let Some(data) = self.join(desk, &clocked, &mut trips[at])? {
                 let trip = trips.swap_remove(at);
                 if data != trip.data {
-                    return Err(trip.failed("the data joined is another", &table));
+                    return Err(trip.failed("the data joined is another", &desk.table));
                 }
                 made.counts.push(trip.count);
             }
         }
-        match rows(&summary) == rows(&expected) {
-            true => Ok(made),
-            false => Err(format!(
-                "round trip: all was delivered, but the {}expected is the {}",
-                summaries::text(&summary),
-                summaries::text(&expected)
-            )),
-        }
+        Ok(made)
     }
 
     /// All the segments of new data.
@@ -82,6 +118,7 @@ impl Ends<'_> {
             rooms: rooms(random, header(table, key), n),
             segments: vec![],
             count: 1,
+            begun: None,
         };
         while trip.segments.len() < trip.count {
             let segment = self.send(&mut trip, table)?;
@@ -112,36 +149,29 @@ impl Ends<'_> {
         Ok(area[..sent.length.into()].to_vec())
     }
 
-    /// Gives the trip's next segment to the receiver with its context padded, as a switch does on
-    /// some links: it is refused, and nothing comes of it. 1, or 0 where it cannot be padded.
+    /// Gives a segment of the trip to the receiver with its context padded, as a switch does on some
+    /// links: it is refused, and nothing comes of it but what its time leads to.
     fn turn_away(
         &self,
-        table: Table,
-        summary: Summary,
-        store: &[u8],
+        desk: &mut Desk,
+        clocked: &Clocked,
         trip: &Trip,
-    ) -> Result<u64, String> {
-        let Some(segment) = trip.segments.last().and_then(|segment| padded(segment)) else {
-            return Ok(0);
-        };
-        let (mut totals, mut saved, mut report) = (summary, store.to_vec(), [0; RECORD]);
-        let got = self.receiver.segment(
-            table,
-            &mut totals,
-            &mut saved,
-            &mut report,
-            trip.key.association,
-            &segment,
-        );
-        let refused = Received::refused(table, 23, 1);
-        let nothing = (totals, &saved[..], report) == (summary, store, [0; RECORD]);
-        match got == refused && nothing {
-            true => Ok(1),
+        segment: &[u8],
+    ) -> Result<(), String> {
+        let (before, mut summary, store) = (desk.table, desk.summary, desk.store.clone());
+        lose(&mut summary, clocked);
+        let (got, report) = self.arrive(desk, clocked, trip, segment);
+        let records = clocked.ended.len() as u8;
+        let refused = Received::refused(clocked.table, 23, 1);
+        let expected = Received { records, timeouts: records, ..refused };
+        let alone = (desk.summary, &desk.store) == (summary, &store);
+        match got == expected && alone && report == clocked.report(&[]) {
+            true => Ok(()),
             false => {
-                let Received { refusal, decision, position, .. } = got;
-                let given = format!("{refusal}, position {position}, {decision:?}");
-                let why = format!("padded, {} gives {given}", hex(&segment));
-                Err(trip.failed(&why, &table))
+                let Received { refusal, records, decision, position, .. } = got;
+                let given = format!("{refusal}, position {position}, {records}, {decision:?}");
+                let why = format!("padded, {} gives {given}", hex(segment));
+                Err(trip.failed(&why, &before))
             }
         }
     }
@@ -149,37 +179,74 @@ impl Ends<'_> {
     /// Gives the trip's next segment to the receiver; the data when that was the last.
     fn join(
         &self,
-        table: &mut Table,
-        summary: &mut Summary,
-        store: &mut [u8],
+        desk: &mut Desk,
+        clocked: &Clocked,
         trip: &mut Trip,
     ) -> Result<Option<Vec<u8>>, String> {
-        let before = *table;
-        let mut report = [0; RECORD];
+        let before = desk.table;
         let segment = trip.segments.pop().unwrap_or_default();
-        let association = trip.key.association;
-        let got = self.receiver.segment(before, summary, store, &mut report, association, &segment);
-        *table = got.table;
+        trip.begun = trip.begun.or(Some(clocked.table.clock));
+        let (got, report) = self.arrive(desk, clocked, trip, &segment);
         let last = trip.segments.is_empty();
-        let good = match (got.decision.kind, last) {
-            (1, false) => got.records == 0,
-            (2, true) => trip.count == 1,
-            (3, true) => trip.count > 1,
-            _ => false,
+        let kind = match (last, trip.count) {
+            (false, _) => 1,
+            (true, 1) => 2,
+            _ => 3,
         };
-        if !good {
-            let why = format!("a segment {} gives {:?}", hex(&segment), got.decision);
+        let timeouts = clocked.ended.len();
+        let counts = (usize::from(got.records), usize::from(got.timeouts));
+        if got.decision.kind != kind || counts != (timeouts + usize::from(last), timeouts) {
+            let why = format!("{} gives {counts:?} records, {:?}", hex(&segment), got.decision);
             return Err(trip.failed(&why, &before));
         }
-        if !last {
-            return Ok(None);
+        let own = if last { trip.record() } else { vec![] };
+        if report != clocked.report(&own) {
+            return Err(trip.failed(&format!("the report is {}", hex(&report)), &before));
         }
-        if report[..] != trip.record() {
-            return Err(trip.failed(&format!("the record is {}", hex(&report)), &before));
-        }
-        let part = self.receiver.delivery(got.decision, &segment, store);
-        let from = if part.source == 0 { &segment } else { &*store };
-        Ok(Some(from[part.start..][..part.length].to_vec()))
+        let part = self.receiver.delivery(got.decision, &segment, &desk.store);
+        let from = if part.source == 0 { &segment } else { &desk.store };
+        Ok(last.then(|| from[part.start..][..part.length].to_vec()))
+    }
+
+    /// A segment of the trip at this time, and the report that it leaves of one of zeros.
+    fn arrive(
+        &self,
+        desk: &mut Desk,
+        clocked: &Clocked,
+        trip: &Trip,
+        parameter: &[u8],
+    ) -> (Received, Vec<u8>) {
+        let mut report = vec![0; ARRIVAL];
+        let Desk { table, summary, store } = desk;
+        let (time, association) = (clocked.table.clock, trip.key.association);
+        let arrival = Arrival { time, association, parameter };
+        let got = self.receiver.arrival(*table, summary, store, &mut report, arrival);
+        *table = got.table;
+        (got, report)
+    }
+}
+
+/// When the next segment comes: no trip is under way for T ticks then, but others may be.
+fn time(random: &mut Random, table: &Table, trips: &[Trip]) -> u32 {
+    let ages = trips.iter().filter_map(|trip| trip.begun).map(|begun| ticks(begun, table.clock));
+    let left = match ages.max() {
+        Some(oldest) => u64::from(table.timer) - 1 - oldest,
+        None => random.pick(&[u64::from(table.timer), (1 << 31) - 1]),
+    };
+    let step = match random.weighted(&[6, 3, 3, 1]) {
+        0 => 0,
+        1 => left.min(1),
+        2 => random.within(0..=left as usize / 8) as u64,
+        _ => left,
+    };
+    table.clock.wrapping_add(step as u32)
+}
+
+/// What is timed out counts as lost.
+fn lose(summary: &mut Summary, clocked: &Clocked) {
+    for (who, gain) in clocked.gains() {
+        let row = summaries::row_of(summary, who).expect("an open place's association has a row");
+        summary.totals.iter_mut().zip(gain).for_each(|(column, gain)| column[row] += gain);
     }
 }
 
@@ -267,9 +334,9 @@ fn header(table: &Table, key: &Key) -> usize {
 }
 
 /// A segment with its context in two octets, if one does and there is room for another.
-fn padded(segment: &[u8]) -> Option<Vec<u8>> {
-    let (first, rest) = segment.split_first()?;
-    let possible = *first >= 0x80 && segment.len() < PARAMETER;
+fn padded(segment: Option<&Vec<u8>>) -> Option<Vec<u8>> {
+    let (first, rest) = segment?.split_first()?;
+    let possible = *first >= 0x80 && rest.len() + 1 < PARAMETER;
     possible.then(|| [&[first & 0x7f, 0x80], rest].concat())
 }
 

@@ -1,3 +1,3 @@
 """The command egrynnol: traces of the application transport, over the proved programs."""
 
-VERSION = "3.1.0"  # the header's too
+VERSION = "4.0.0"  # the header's too

@@ -12,7 +12,7 @@ import tempfile
 import xml.etree.ElementTree as tree
 
 from egrynnol_lib.streams import Failed, fit, opened
-from egrynnol_lib.traces import SEGMENT, Bad, Record, text_of
+from egrynnol_lib.traces import SEGMENT, Bad, Record, context_of, text_of
 from egrynnol_lib.words import Ends, Reading, count
 
 APPLICATION_TRANSPORT = 120
@@ -130,13 +130,6 @@ class ReadAs2000:
         return ""
 
 
-def context_of(octets):
-    """The context of a parameter, or None where it has none."""
-    if not octets or (octets[0] < 128 and (len(octets) < 2 or octets[1] < 128)):
-        return None
-    return octets[0] % 128 + (128 * (octets[1] % 128) if octets[0] < 128 else 0)
-
-
 def is_padded(octets):
     """Whether the context is in two octets where one would do."""
     return len(octets) > 1 and octets[0] < 128 and octets[1] == 128
@@ -224,20 +217,21 @@ class Writer:
 
     def message(self, message):
         release = message.kind in RELEASES
-        if message.parameters or release:
-            yield from self.time(message)
+        carried = any(octets is not None for octets in message.parameters)
+        if carried or release:
+            yield from self.time(message, carried)
         if not message.whole:
             yield "# frame %d is not read to its end: the capture has cut it, or tshark cannot read it; parameters may be missing" % message.frame
         for octets in message.parameters:
             if octets is None:
                 yield "# frame %d: a parameter that the capture has cut, left out" % message.frame
             else:
-                yield "%s    # frame %d" % (text_of(Record(SEGMENT, (message.circuit,), octets, b"")), message.frame)
+                yield "%s    # frame %d" % (text_of(Record(SEGMENT, (self.clock, message.circuit), octets, b"")), message.frame)
         if release:
             yield "release %d    # frame %d, %s" % (message.circuit, message.frame, RELEASES[message.kind])
 
-    def time(self, message):
-        """The clock's lines up to a message, in steps that are no steps back."""
+    def time(self, message, carried):
+        """The clock's lines up to a message, in steps that are no steps back; the last step needs none where a segment carries it."""
         ticks = int((message.time - self.messages[0].time) / self.tick)
         gap = ticks - self.ticks
         if gap < 0:
@@ -250,7 +244,8 @@ class Writer:
             step = min(gap, HALF)
             gap -= step
             self.clock = (self.clock + step) % ROUND
-            yield "clock %d" % self.clock
+            if gap or not carried:
+                yield "clock %d" % self.clock
 
 
 def trace_lines(name, messages, tick, timer):

@@ -11,12 +11,15 @@ import signal
 
 from egrynnol_lib import VERSION, programs, streams, totals as of_totals
 from egrynnol_lib.rows import Beside, csv_head, csv_line, csv_of, json_of
-from egrynnol_lib.streams import Failed, NotWritten, Trace, fit, opened, output, report, trace
-from egrynnol_lib.traces import BLOCK, Bad, blocks_of, octets_of_record, parsed, records_of_text, text_of
+from egrynnol_lib.streams import Failed, NotWritten, Trace, fit, is_text, opened, output, report, trace
+from egrynnol_lib.traces import BEFORE, BLOCK, Bad, blocks_of, octets_of_record, parsed, records_of_text, text_of
+from egrynnol_lib.upgrade import octets_upgraded, text_upgraded
 from egrynnol_lib.words import Teller
 
 GOOD, BAD, FAILED, STOPPED, USAGE = 0, 1, 2, 3, 64
 WORST = (GOOD, STOPPED, BAD, FAILED)  # of several files the worst one counts
+
+OLDER = "these octets are a trace of before version 4, whose segments have no time, and are read wrongly: use 'egrynnol upgrade'"
 
 
 class Misused(Exception):
@@ -34,6 +37,8 @@ def each_trace(options, out, work, headed=True):
                 if headed and len(options.files) > 1 and not getattr(options, "table", None):
                     out.write(("# %s\n" % it.name).encode("utf-8", "backslashreplace"))
                 now = work(it, out)
+                if it.is_older():
+                    report("%s: note: %s" % (it.name, OLDER))
         except Bad as error:
             now = told_bad(error)
         except Failed as error:
@@ -123,7 +128,8 @@ def counted(counts):
 
         def nothing_printed(row, item):
             if row and row.name == "segment" and row.refusal:
-                own[item.record.numbers[0], row.refusal] += 1
+                _, association = item.record.numbers
+                own[association, row.refusal] += 1
             return []
 
         status = batch_by_batch(it, out, nothing_printed)
@@ -164,6 +170,7 @@ def batch_by_batch(it, out, lines_of):
 
 def encode(options, out):
     """Text to octets. Nothing is written from the first bad line on, but all lines are checked."""
+    no_terminal("encode", options)
     with opened(options.file) as raw:
         for _, record in records_of_text(io.BufferedReader(raw, BLOCK), fit(raw.name), report):
             out.write(octets_of_record(record))
@@ -176,8 +183,10 @@ def decode(options, out):
         return decoded(Trace(fit(raw.name), io.BufferedReader(raw, BLOCK), None), out)
 
 
-def hint_of(block):
+def hint_of(it, block):
     """What an input looks like that begins so and is no trace in octets."""
+    if it.is_older():
+        return "; %s" % OLDER
     try:
         return "; this looks like text: use encode" if streams.told(block, True) else ""
     except Bad as error:
@@ -190,13 +199,37 @@ def decoded(it, out):
         front = front or block
         for offset, record in found:
             if isinstance(record, Bad):
-                raise Bad("%s: offset %d: %s%s" % (it.name, offset, record, hint_of(front)))
+                raise Bad("%s: offset %d: %s%s" % (it.name, offset, record, hint_of(it, front)))
             out.write(text_of(record).encode("ascii") + b"\n")
             past = offset if past is None and record.past else past
         out.flush()
     if past is not None:
         report("%s: note: from offset %d on there are octets past a parameter's length that are not zero; they stand after '|'" % (it.name, past))
     return GOOD
+
+
+def upgrade(options, out):
+    """A trace of before version 4 to one of now, text to text and octets to octets."""
+    with opened(options.file) as raw:
+        name, text = fit(raw.name), is_text(raw, options.kind, BEFORE)
+        stream = io.BufferedReader(raw, BLOCK)
+        if text:
+            text_upgraded(stream, name, out, report)
+            return GOOD
+        no_terminal("upgrade", options)
+        try:
+            reason = octets_upgraded(stream, out)
+        except Bad as error:
+            raise Bad("%s: %s" % (name, error))
+    if reason:
+        report("%s: note: %s; from there on the octets stand as they were" % (name, reason))
+    return STOPPED if reason else GOOD
+
+
+def no_terminal(name, options):
+    """Octets go to a file or a pipe."""
+    if options.out in (None, "-") and 1 not in streams.wrong and os.isatty(1):
+        raise Misused("egrynnol %s: octets are not for a terminal: use -o FILE or a pipe" % name)
 
 
 def from_pcap(options, out):
@@ -224,7 +257,8 @@ The text has a line for each record. Numbers are decimal, octets are hex.
 
   context 1998 3            registered context: of 1998 or 2000, context (0 to 65535)
   open 100 0                T and clock (0 to 4294967295 each)
-  segment 9 83 80 C0 AA     association (0 to 65535), then 0 to 255 octets
+  segment 0 9 83 80 C0 AA   time (0 to 4294967295), association (0 to 65535),
+                            then 0 to 255 octets
   clock 99                  time (0 to 4294967295)
   release 9                 association (0 to 65535)
 
@@ -242,8 +276,10 @@ REPLAY = """\
 Runs the proved program replay on each trace and prints its lines: name,
 refusal number or 0, records, octets delivered, octets lost. A segment's line
 ends with the position, from 0, of the octet that it was refused for, or with
-'-' where no octet is to blame. A last line 'stop' says that the trace was not
-understood from there on. See egrynnol-trace(5).
+'-' where no octet is to blame. A segment does the clock's work first, by its
+own time: what that loses is counted in its line, where the segment itself is
+refused too. A last line 'stop' says that the trace was not understood from
+there on. See egrynnol-trace(5).
 """
 
 RECORDS = """\
@@ -256,11 +292,12 @@ JSON with one object a line. The columns are the same: file; row (event,
 delivered, lost, dropped, held, stop); event, its number from 1; line, of a
 text, or offset, of octets; then the event's name, refusal, records,
 octets_delivered, octets_lost, position (of the octet at fault, where a segment
-was refused for one), decision and place; then a record's association, context,
-reference (none for an unsegmented parameter), instruction, cause, segments,
-octets, origin and destination (both in hex; in CSV with 0x before them, since
-a spreadsheet takes 0007 and 07 for one number). What a row does not have is
-empty in CSV and null in JSON.
+was refused for one), timeouts (how many of a segment's records are the
+clock's), decision and place; then of a record made_by (clock, segment or
+release), association, context, reference (none for an unsegmented parameter),
+instruction, cause, segments, octets, origin and destination (both in hex; in
+CSV with 0x before them, since a spreadsheet takes 0007 and 07 for one number).
+What a row does not have is empty in CSV and null in JSON.
 """
 
 TOTALS = """\
@@ -283,17 +320,19 @@ were met, association, number, segments. --number keeps one number. So
   egrynnol refusals --number 23 OLD.trace ...
 
 tells how many segments of each association in old traces have a padded
-context, which this version refuses. A trace that cannot be read to its end
-counts for nothing, and one that stops counts up to there.
+context, which version 2.1 and those after it refuse. (A trace of before version
+4 is upgraded first.) A trace that cannot be read to its end counts for nothing,
+and one that stops counts up to there.
 """
 
 EXPLAIN = """\
 Tells each trace in words, beside its line number (text) or offset (octets):
 what was refused and why, saved where, delivered, lost by which cause, dropped
 by an opening, held at the end, and where it stops. All that is the answer of
-the proved program records. What a parameter's fields say stands after 'read
-alone': that is of the parameter and not of what became of it. Of the
-information only the length is told.
+the proved program records. What a segment's own time has lost before the
+segment was looked at stands after 'by the clock first'. What a parameter's
+fields say stands after 'read alone': that is of the parameter and not of what
+became of it. Of the information only the length is told.
 
 Where an octet of a parameter is to blame for a refusal (5 to 9 and 23), the
 octets are shown in hex, 16 a line, each line behind the position of its first
@@ -313,7 +352,7 @@ A segment's record has 255 octets, of which the length counts some. The others
 are written as zero. Where they are not all zero, they stand after '|', up to
 the last one that is not zero:
 
-  segment 9 83 80 C0 AA | 00 01
+  segment 0 9 83 80 C0 AA | 00 01
 """
 
 DECODE = """\
@@ -327,10 +366,25 @@ length that are not zero stand after '|'.
 FROM_PCAP = """\
 A text trace from a capture, by the fields that tshark reads in it (Debian's
 package tshark). Each application transport parameter of an ISUP message is a
-segment; its association is the circuit code (CIC). REL and RSC are releases.
-The clock counts ticks from the first frame. What a capture cannot tell (which
-contexts are of 1998 and of 2000, T, releases that are not in it) stands in the
-trace as a comment, beside a default.
+segment; its association is the circuit code (CIC), and its time that of the
+frame, in ticks from the first one. REL and RSC are releases, with a clock line
+before them where time has passed. What a capture cannot tell (which contexts
+are of 1998 and of 2000, T, releases that are not in it) stands in the trace as
+a comment, beside a default.
+"""
+
+UPGRADE = """\
+A trace of before version 4, in which segments have no time, to one of now: text
+to text, with its comments, and octets to octets. Each segment gets the time
+that it met: that of the last opening that was accepted, or of the last step of
+the clock after it that was; where nothing is open, 0. So replay prints of the
+new trace what it printed of the old one.
+
+An input whose segments have their times already is left alone: that is status
+1, and so is a text with a bad line. Octets that are no record, at which replay
+stops, stand in the new trace as they were, with all behind them, so that it
+stops there again; that is status 3. A registered context after the first open,
+at which it stops too, is a record like the others.
 """
 
 # name: what is typed; work: the function; what: a line of help; text: more of it; options: of OPTIONS.
@@ -346,6 +400,7 @@ COMMANDS = (
     Command("explain", explain, "traces in words", EXPLAIN + "\n" + TELLING, ("kind", "out", "files")),
     Command("encode", encode, "a trace in text to octets", ENCODE + "\n" + TEXT, ("out", "file")),
     Command("decode", decode, "a trace in octets to text", DECODE, ("out", "file")),
+    Command("upgrade", upgrade, "a trace of before version 4 to one of now", UPGRADE + "\n" + TELLING, ("kind", "out", "file")),
     Command("from-pcap", from_pcap, "a text trace from a capture", FROM_PCAP, ("capture", "out")),
 )
 
@@ -363,7 +418,7 @@ of the place where this is installed; else target/bin of the repository.
 """ + STATUS + """
 Example:
 
-  printf 'context 1998 3\\nopen 100 0\\nsegment 9 83 80 C0 AA BB\\n' | %s explain
+  printf 'context 1998 3\\nopen 100 0\\nsegment 0 9 83 80 C0 AA BB\\n' | %s explain
 """
 
 
@@ -483,8 +538,6 @@ def arguments(typed, argv):
 
 
 def run(command, options):
-    if command.name == "encode" and options.out in (None, "-") and 1 not in streams.wrong and os.isatty(1):
-        raise Misused("egrynnol encode: octets are not for a terminal: use -o FILE or a pipe")
     with output(options.out) as out:
         try:
             status = command.work(options, out)

@@ -11,17 +11,18 @@ from egrynnol_lib.streams import Failed
 from egrynnol_lib.traces import OPEN, WORDS, Bad, parsed
 
 # row: event, delivered, lost, dropped, held or stop. What a row has no part in is None.
-COLUMNS = ("file", "row", "event", "line", "offset", "name", "refusal", "records", "octets_delivered", "octets_lost", "position", "decision", "place",
-           "association", "context", "reference", "instruction", "cause", "segments", "octets", "origin", "destination")
+COLUMNS = ("file", "row", "event", "line", "offset", "name", "refusal", "records", "octets_delivered", "octets_lost", "position", "timeouts", "decision", "place",
+           "made_by", "association", "context", "reference", "instruction", "cause", "segments", "octets", "origin", "destination")
 ADDRESSES = ("origin", "destination")
+TIMER = 6  # the cause of a loss by the clock's work, and by nothing else
 Row = collections.namedtuple("Row", COLUMNS)
 NOTHING = Row(*[None] * len(COLUMNS))
 
 NUMBER = r"([0-9]{1,19})"
 ADDRESS = r"((?:[0-9A-F]{2})+|-)"
 OR_NONE = r"(-|[0-9]{1,19})"
-# A segment's line has a position, and no other one has.
-EVENT = re.compile(r"((segment)|open|clock|release) N N N N(?(2) P) N (?:(refused) N|(saved) N|(delivered|lost|-))\Z".replace("N", NUMBER).replace("P", OR_NONE))
+# A segment's line has a position, and how many records are the clock's; no other one has.
+EVENT = re.compile(r"((segment)|open|clock|release) N N N N(?(2) P) N(?(2) N) (?:(refused) N|(saved) N|(delivered|lost|-))\Z".replace("N", NUMBER).replace("P", OR_NONE))
 UNDER = re.compile(r"(delivered|lost|dropped|held) N N P N N N N A A\Z".replace("A", ADDRESS).replace("N", NUMBER).replace("P", OR_NONE))
 
 
@@ -29,19 +30,27 @@ def number_or_none(word):
     return None if word in (None, "-") else int(word)
 
 
+def event_row(found):
+    """The row of an event's line, and the refusal number that its decision has."""
+    name, _, *numbers = found.groups()[:9]
+    refused, number, saved, place, other = found.groups()[9:]
+    numbers = dict(zip(("refusal", "records", "octets_delivered", "octets_lost", "position", "event", "timeouts"), map(number_or_none, numbers)))
+    decision = refused or saved or (other if other != "-" else None)
+    return NOTHING._replace(row="event", name=name, decision=decision, place=number_or_none(place), **numbers), int(number or 0)
+
+
 def row_of(line):
     """The row of a line that records printed."""
     event, under = EVENT.match(line), UNDER.match(line)
     if event:
-        name, _, *numbers = event.groups()[:8]
-        refused, number, saved, place, other = event.groups()[8:]
-        if numbers[0] != (number or "0"):
+        row, number = event_row(event)
+        if row.refusal != number:
             raise Failed("records printed refusals that differ: %s" % line)
-        if number is None and numbers[4] not in (None, "-"):
+        if not number and row.position is not None:
             raise Failed("records printed a position where nothing is refused: %s" % line)
-        decision = refused or saved or (other if other != "-" else None)
-        numbers = dict(zip(("refusal", "records", "octets_delivered", "octets_lost", "position", "event"), map(number_or_none, numbers)))
-        return NOTHING._replace(row="event", name=name, decision=decision, place=number_or_none(place), **numbers)
+        if row.name == "segment" and row.records != row.timeouts + (row.decision in ("delivered", "lost")):
+            raise Failed("records printed records that are neither the clock's nor the segment's: %s" % line)
+        return row
     if under:
         name, association, context, reference, *numbers, origin, destination = under.groups()
         numbers = dict(zip(("instruction", "cause", "segments", "octets"), map(int, numbers)))
@@ -62,6 +71,7 @@ class Beside:
 
     def __init__(self, trace):
         self.trace, self.items, self.opened = trace, collections.deque(), False
+        self.last, self.told = NOTHING, 0  # the last event's row, and how many of its records were told
 
     def pieces(self):
         """What records is fed. An item is there before its octets are, so before its row."""
@@ -93,6 +103,8 @@ class Beside:
                     event = (self.stopped_at() if row.row == "stop" else None, None)
                 if event is None:
                     raise Failed("records printed a record before any event: %s" % line)
+                if row.row in ("delivered", "lost"):
+                    row = self.made(row, line)
                 pairs.append((self.placed(row, *event), event[0]))
             yield pairs
         yield list(self.contexts())
@@ -103,7 +115,16 @@ class Beside:
         if item is None or isinstance(item.record, Bad) or WORDS.get(row.name) != item.record.kind:
             raise Failed("records printed event %d, which is not the trace's" % row.event)
         self.opened = self.opened or item.record.kind == OPEN
+        self.last, self.told = row, 0
         return item
+
+    def made(self, row, line):
+        """A record's row, with what made it: of a segment's records the first are the clock's, which loses by the timer alone."""
+        by = "clock" if self.told < (self.last.timeouts or 0) else self.last.name
+        self.told += 1
+        if self.told > self.last.records or (by == "clock") != (row.cause == TIMER):
+            raise Failed("records printed a record that its event did not make: %s" % line)
+        return row._replace(made_by=by)
 
     def contexts(self):
         """The registered contexts up to the next event, or up to where it stops."""

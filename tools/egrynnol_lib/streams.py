@@ -10,7 +10,8 @@ import stat
 import tempfile
 import threading
 
-from egrynnol_lib.traces import BLOCK, FORMS, LENGTHS, Bad, spooled
+from egrynnol_lib.traces import BLOCK, FORMS, Bad, spooled
+from egrynnol_lib.upgrade import Watched
 
 STANDARD_INPUT = "standard input"
 STANDARD_OUTPUT = "standard output"
@@ -123,7 +124,7 @@ CONTROL = re.compile(rb"[\0-\x08\x0e-\x1f\x7f]")
 WORD = re.compile(rb"(?:\xef\xbb\xbf)?(?:[\t-\r ]|#[^\0-\x08\n\x0e-\x1f\x7f]*\n)*(?:context|open|segment|clock|release)(?=[\t-\r ])")
 
 
-def told(head, ended):
+def told(head, ended, forms=FORMS):
     """Whether an input that begins so is text; None where more has to be seen."""
     if head[:2] in (b"\xff\xfe", b"\xfe\xff"):
         raise Bad("this is text in UTF-16: save it as UTF-8")
@@ -133,21 +134,26 @@ def told(head, ended):
         return False
     at = 0
     while at < len(head):
-        if head[at] not in FORMS:
+        if head[at] not in forms:
             return True
-        at += LENGTHS[head[at]]
+        at += forms[head[at]].length
     if ended:
         return at > len(head) or not head
     return False if len(head) >= LOOK else None
 
 
-def is_text(raw):
-    """Looks at the front of an input, as far as is needed, and puts it back."""
+def is_text(raw, kind, forms=FORMS):
+    """What kind says, text or octets; else looks at the front of an input, as far as is needed, and puts it back."""
+    if kind is not None:
+        return kind == "text"
     head, answer = b"", None
     while answer is None:
         block = raw.some(LOOK - len(head))
         head += block
-        answer = told(head, not block)
+        try:
+            answer = told(head, not block, forms)
+        except Bad as error:
+            raise Bad("%s: %s" % (fit(raw.name), error))
     raw.front = head
     return answer
 
@@ -156,18 +162,19 @@ class Trace:
     """An input as a trace in octets. lines: the line of each record where it was text."""
 
     def __init__(self, name, stream, lines):
-        self.name, self.stream, self.lines = name, stream, lines
+        self.name, self.lines = name, lines
+        self.stream = Watched(stream) if lines is None else stream
+
+    def is_older(self):
+        """Whether its octets, as far as they were read, are those of a trace of before version 4 and of none of now."""
+        return self.lines is None and self.stream.is_older()
 
 
 @contextlib.contextmanager
 def trace(path, kind):
     """The trace of a file or of standard input; kind: text, octets, or None to look."""
     with opened(path) as raw:
-        name = fit(raw.name)
-        try:
-            text = is_text(raw) if kind is None else kind == "text"
-        except Bad as error:
-            raise Bad("%s: %s" % (name, error))
+        name, text = fit(raw.name), is_text(raw, kind)
         stream = io.BufferedReader(raw, BLOCK)
         if not text:
             yield Trace(name, stream, None)

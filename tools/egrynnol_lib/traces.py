@@ -11,20 +11,30 @@ PARAMETER = 255     # octets of a parameter's field in kind 33
 BLOCK = 65536       # octets that are read at a time
 IN_MEMORY = 8 << 20  # octets of a text's trace that are not put into a file
 
-# The kind octet; the words of its line; its numbers, each with its octets.
-FORMS = {
-    1: ("context 1998", (("context", 2),)),
-    2: ("context 2000", (("context", 2),)),
-    32: ("open", (("T", 4), ("clock", 4))),
-    33: ("segment", (("association", 2),)),
-    34: ("clock", (("time", 4),)),
-    35: ("release", (("association", 2),)),
-}
-REPORT = range(16, 20)  # kinds of a report's records: 18 and 19, and before version 3 they were 16 and 17
 WORDS = {"open": 32, "segment": 33, "clock": 34, "release": 35}
-OPEN, SEGMENT = 32, 33
+OPEN, SEGMENT, CLOCK = 32, 33, 34
+REPORT = range(16, 20)  # kinds of a report's records: 18 and 19, and before version 3 they were 16 and 17
 
-# octets: the parameter; past: what stands after it in the 255 octets, without its last zeros.
+# Of a kind: the words of its line; its numbers, each with its octets; the octets of its record, with the kind.
+Form = collections.namedtuple("Form", "name numbers length")
+
+
+def form(name, *numbers, more=0):
+    return Form(name, numbers, 1 + sum(width for _, width in numbers) + more)
+
+
+FORMS = {
+    1: form("context 1998", ("context", 2)),
+    2: form("context 2000", ("context", 2)),
+    32: form("open", ("T", 4), ("clock", 4)),
+    33: form("segment", ("time", 4), ("association", 2), more=1 + PARAMETER),
+    34: form("clock", ("time", 4)),
+    35: form("release", ("association", 2)),
+}
+# Before version 4 a segment had no time.
+BEFORE = {**FORMS, SEGMENT: form("segment", ("association", 2), more=1 + PARAMETER)}
+
+# numbers: those of its form; octets: the parameter; past: what stands after it in the 255 octets, without its last zeros.
 Record = collections.namedtuple("Record", "kind numbers octets past")
 
 
@@ -113,7 +123,7 @@ def kind_of(words):
     return WORDS[name], words[1:]
 
 
-def parse_line(line):
+def parse_line(line, forms=FORMS):
     """The record of one line of text (octets, as read); None for a blank line or a comment."""
     if line is None:
         raise Bad("the line is longer than %d octets" % LINE_LIMIT)
@@ -123,7 +133,7 @@ def parse_line(line):
     if not words:
         return None
     kind, rest = kind_of(words)
-    name, fields = FORMS[kind]
+    name, fields, _ = forms[kind]
     if len(rest) < len(fields):
         raise Bad("%s: the number for %s is missing" % (name, fields[len(rest)][0]))
     numbers = tuple(number_of(word, "%s: %s" % (name, field), width)
@@ -138,7 +148,7 @@ def parse_line(line):
 
 def text_of(record):
     """The line of a record, in the canonical form, without its newline."""
-    words = [FORMS[record.kind][0]] + ["%d" % number for number in record.numbers]
+    words = [FORMS[record.kind].name] + ["%d" % number for number in record.numbers]
     if record.octets:
         words.append(hexed(record.octets))
     if record.past:
@@ -163,22 +173,33 @@ def lines_of(stream):
         line = stream.readline(LINE_LIMIT + 1)
 
 
-def records_of_text(stream, name, report):
-    """The records of a text, each with its line. Bad lines are all reported; with one, the end is Bad."""
+def read_text(stream, name, report, forms=FORMS):
+    """The lines of a text, each with its number and its record, if it has one. Bad lines are all reported; with one, the end is Bad."""
     bad = 0
     for number, line in lines_of(stream):
         try:
-            record = parse_line(line)
+            record = parse_line(line, forms)
         except Bad as error:
-            report("%s:%d: %s" % (name, number, error))
+            report("%s:%d: %s%s" % (name, number, error, good_otherwise(line, forms)))
             bad += 1
             if bad == BAD_LINES:
                 raise Bad("%s: %d bad lines, the rest is not read" % (name, bad))
             continue
-        if record and not bad:
-            yield number, record
+        if not bad:
+            yield number, line, record
     if bad:
         raise Bad("")
+
+
+def records_of_text(stream, name, report):
+    """The records of a text, each with its line."""
+    doubt = Doubt(FORMS)
+    for number, line, record in read_text(stream, name, report):
+        if record:
+            doubt.take(line, record)
+            yield number, record
+    if doubt.stands():
+        report("%s: note: this looks like a trace of before version 4, read wrongly: a segment's time is missing, and what stands for its association is octet 1; use 'egrynnol upgrade'" % name)
 
 
 def spooled(stream, name, report):
@@ -195,18 +216,60 @@ def spooled(stream, name, report):
     return octets, lines
 
 
+# ---- text of now and of before version 4 ----
+
+def other_than(forms):
+    return BEFORE if forms is FORMS else FORMS
+
+
+def good_otherwise(line, forms):
+    """What to add to the reason why a line is bad, where it is a good one of the other forms."""
+    try:
+        parse_line(line, other_than(forms))
+    except Bad:
+        return ""
+    if forms is BEFORE:
+        return "; with a time before the association it is a line of now"
+    return "; before version 4, when no time stood before the association, it was a good line: use 'egrynnol upgrade'"
+
+
+class Doubt:
+    """Whether a text whose lines are good in these forms is one of the others: there a segment has a context that is listed, and here none has."""
+
+    def __init__(self, forms):
+        self.forms, self.listed, self.found, self.over = forms, set(), False, False
+
+    def take(self, line, record):
+        if record.kind < OPEN:
+            self.listed.add(record.numbers[0])
+        elif record.kind == SEGMENT and not self.over:
+            self.segment(line, record)
+
+    def segment(self, line, record):
+        try:
+            other = parse_line(line, other_than(self.forms))
+        except Bad:
+            self.over = True
+            return
+        self.over = context_of(record.octets) in self.listed
+        self.found = self.found or context_of(other.octets) in self.listed
+
+    def stands(self):
+        return self.found and not self.over
+
+
+def context_of(octets):
+    """The context of a parameter, or None where it has none."""
+    if not octets or (octets[0] < 128 and (len(octets) < 2 or octets[1] < 128)):
+        return None
+    return octets[0] % 128 + (128 * (octets[1] % 128) if octets[0] < 128 else 0)
+
+
 # ---- one record of octets ----
-
-def body_length(kind):
-    return sum(width for _, width in FORMS[kind][1]) + (1 + PARAMETER if kind == SEGMENT else 0)
-
-
-LENGTHS = {kind: 1 + body_length(kind) for kind in FORMS}
-
 
 def octets_of_record(record):
     out = bytes([record.kind])
-    for number, (_, width) in zip(record.numbers, FORMS[record.kind][1]):
+    for number, (_, width) in zip(record.numbers, FORMS[record.kind].numbers):
         out += number.to_bytes(width, "big")
     if record.kind == SEGMENT:
         field = record.octets + record.past
@@ -214,17 +277,17 @@ def octets_of_record(record):
     return out
 
 
-def record_at(octets, at):
+def record_at(octets, at, forms):
     """The record that starts there; None where it is not whole."""
     kind = octets[at]
     if kind in REPORT:
         raise Bad("kind %d is a record of a report, it has no place in a trace" % kind)
-    if kind not in FORMS:
+    if kind not in forms:
         raise Bad("kind %d is unknown; a trace has kinds 1, 2, 32, 33, 34 and 35" % kind)
-    if len(octets) - at < LENGTHS[kind]:
+    if len(octets) - at < forms[kind].length:
         return None
     numbers, at = [], at + 1
-    for _, width in FORMS[kind][1]:
+    for _, width in forms[kind].numbers:
         numbers.append(int.from_bytes(octets[at:at + width], "big"))
         at += width
     parameter = past = b""
@@ -234,23 +297,23 @@ def record_at(octets, at):
     return Record(kind, tuple(numbers), parameter, past)
 
 
-def cut(octets):
+def cut(octets, forms):
     """Why octets that are left at the end are no record."""
     kind = octets[0]
     return Bad("the record is cut: kind %d (%s) has %d octets, here are %d"
-               % (kind, FORMS[kind][0], LENGTHS[kind], len(octets)))
+               % (kind, forms[kind].name, forms[kind].length, len(octets)))
 
 
 def blocks_of(stream):
     """What is there, as soon as it is there."""
-    read = getattr(stream, "read1", stream.read)
+    read = stream.read1 if hasattr(stream, "read1") else stream.read
     block = read(BLOCK)
     while block:
         yield block
         block = read(BLOCK)
 
 
-def parsed(stream):
+def parsed(stream, forms=FORMS):
     """Each block of a trace in octets, with the records that end in it: pairs of offset and record, or offset and Bad.
     After a Bad one there is none."""
     left, offset, good = b"", 0, True
@@ -258,7 +321,7 @@ def parsed(stream):
         found, octets, at = [], left + block if good else b"", 0
         while good and at < len(octets):
             try:
-                record = record_at(octets, at)
+                record = record_at(octets, at, forms)
             except Bad as error:
                 found.append((offset + at, error))
                 good = False
@@ -266,8 +329,8 @@ def parsed(stream):
             if record is None:
                 break
             found.append((offset + at, record))
-            at += LENGTHS[record.kind]
+            at += forms[record.kind].length
         left, offset = octets[at:], offset + at
         yield block, found
     if good and left:
-        yield b"", [(offset, cut(left))]
+        yield b"", [(offset, cut(left, forms))]

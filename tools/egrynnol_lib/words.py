@@ -253,10 +253,10 @@ def answer_lines(row):
 
 def compared(row, reading):
     """The fault of a parameter read alone beside the one that was answered: the fault, where it is the same, and words for it.
-    Where nothing is open, no parameter is read."""
+    Where nothing is open, or the clock's step is too large, no parameter is read."""
     answered = None if row.position is None else (row.refusal, row.position)
     found = None if reading.fault is None else reading.fault[:2]
-    if row.refusal == 1 or answered is found is None:
+    if row.refusal in (1, 13) or answered is found is None:
         return None, None
     if answered == found:
         return reading.fault, reading.fault.words
@@ -278,7 +278,7 @@ class Teller:
     """The lines that tell a trace, pair by pair of a row of records and the trace's own record."""
 
     def __init__(self, trace):
-        self.trace, self.registry, self.alone, self.held = trace, Registry(), [], False
+        self.trace, self.registry, self.alone, self.held, self.last = trace, Registry(), [], False, None
 
     def where(self, item):
         return "line %d" % self.trace.lines[item.index] if self.trace.lines is not None else "offset %d" % item.offset
@@ -304,9 +304,10 @@ class Teller:
     def context(self, item):
         context, = item.record.numbers
         self.registry.add(context, item.record.kind)
-        return ["%s: %s %d" % (self.where(item), FORMS[item.record.kind][0], context)]
+        return ["%s: %s %d" % (self.where(item), FORMS[item.record.kind].name, context)]
 
     def event(self, row, item):
+        self.last = row
         yield from self.rest()
         yield "%s, event %d: %s" % (self.where(item), row.event, head(item.record))
         for line in answer_lines(row):
@@ -335,7 +336,13 @@ class Teller:
             self.held = True
             yield from self.rest()
             yield "at the end:"
-        yield "    " + under_line(row)
+        yield "    " + self.whose(row) + under_line(row)
+
+    def whose(self, row):
+        """Words before a record of a segment's that is the clock's."""
+        if row.made_by != "clock" or self.last.name == "clock":
+            return ""
+        return "by the clock first, and it stands: " if self.last.refusal else "by the clock first: "
 
 
 def head(record):
@@ -343,6 +350,6 @@ def head(record):
     if record.kind == OPEN:
         return "open, T %d, clock %d" % record.numbers
     if record.kind == SEGMENT:
-        return "segment, association %d, parameter of %s" % (record.numbers[0], count(len(record.octets)))
-    name, ((field, _),) = FORMS[record.kind]
+        return "segment at %d, association %d, %s" % (*record.numbers, count(len(record.octets)))
+    name, ((field, _),), _ = FORMS[record.kind]
     return "%s, %s %d" % (name, field, record.numbers[0])

@@ -21,7 +21,7 @@ pub struct Areas {
 impl Areas {
     /// With no used row.
     pub fn new() -> Self {
-        Areas { summary: Summary::EMPTY, store: vec![0; STORE], report: vec![0; SWEEP] }
+        Areas { summary: Summary::EMPTY, store: vec![0; STORE], report: vec![0; ARRIVAL] }
     }
 
     pub fn with(summary: Summary) -> Self {
@@ -35,10 +35,10 @@ pub fn table(open: usize, association: impl Fn(usize) -> u16) -> (Table, Summary
     let Areas { mut summary, mut store, mut report } = Areas::new();
     let mut table = Unbroken::PLAIN.opening(&mut summary, &REGISTRY, TIMER, 0).table;
     for k in 0..open {
-        let parameter = other(k).octets();
-        let (store, report, association) = (&mut store, &mut report, association(k));
-        let got =
-            Unbroken::PLAIN.segment(table, &mut summary, store, report, association, &parameter);
+        let parameter = &other(k).octets();
+        let arrival = Arrival { time: table.clock, association: association(k), parameter };
+        let (store, report) = (&mut store, &mut report);
+        let got = Unbroken::PLAIN.arrival(table, &mut summary, store, report, arrival);
         assert!(got.refusal == 0 && got.decision.kind == 1, "sequence {k} is not open");
         table = got.table;
     }

@@ -28,18 +28,17 @@ impl Side for Both {
         alike(summary, &mut [], |side, summary, _| side.opening(summary, registry, timer, clock))
     }
 
-    fn segment(
+    fn arrival(
         &self,
         table: Table,
         summary: &mut Summary,
         store: &mut [u8],
         report: &mut [u8],
-        association: u16,
-        parameter: &[u8],
+        arrival: Arrival,
     ) -> Received {
         alike(summary, &mut [store, report], |side, summary, lent| {
             let [store, report] = lent else { unreachable!() };
-            side.segment(table, summary, store, report, association, parameter)
+            side.arrival(table, summary, store, report, arrival)
         })
     }
 

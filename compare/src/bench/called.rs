@@ -11,7 +11,7 @@ const MODEL: Unbroken = Unbroken::PLAIN;
 pub struct Called;
 
 type Opening = fn(&Unbroken, &mut Summary, &[u8], u32, u32) -> Opened;
-type Segment = fn(&Unbroken, Table, &mut Summary, &mut [u8], &mut [u8], u16, &[u8]) -> Received;
+type Arriving = fn(&Unbroken, Table, &mut Summary, &mut [u8], &mut [u8], Arrival) -> Received;
 type Clock = fn(&Unbroken, Table, &mut Summary, &mut [u8], u32) -> Swept;
 type Release = fn(&Unbroken, Table, &mut Summary, &mut [u8], u16) -> Swept;
 type Sending = fn(&Unbroken, Table, Request, &[u8], &[u8], &[u8], &mut [u8]) -> Sent;
@@ -22,17 +22,16 @@ impl Side for Called {
         black_box(call)(&MODEL, summary, registry, timer, clock)
     }
 
-    fn segment(
+    fn arrival(
         &self,
         table: Table,
         summary: &mut Summary,
         store: &mut [u8],
         report: &mut [u8],
-        association: u16,
-        parameter: &[u8],
+        arrival: Arrival,
     ) -> Received {
-        let call: Segment = Unbroken::segment;
-        black_box(call)(&MODEL, table, summary, store, report, association, parameter)
+        let call: Arriving = Unbroken::arrival;
+        black_box(call)(&MODEL, table, summary, store, report, arrival)
     }
 
     fn clock(&self, table: Table, summary: &mut Summary, report: &mut [u8], time: u32) -> Swept {

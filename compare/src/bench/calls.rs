@@ -12,6 +12,9 @@ use model::*;
 /// Calls in one go: enough for the clock that times them.
 const CALLS: usize = 200;
 
+/// Who sends at a later time.
+const LATER: u16 = 1;
+
 pub struct Opening {
     summary: Summary,
 }
@@ -87,7 +90,8 @@ impl Work for Release {
     }
 }
 
-/// An unsegmented parameter for the last used row, or for the first where none is used.
+/// An unsegmented parameter for the last used row, or for the first where none is used; at the
+/// table's own time.
 pub struct Rows {
     table: Table,
     areas: Areas,
@@ -122,12 +126,61 @@ impl Work for Rows {
         for _ in 0..CALLS {
             let Areas { summary, store, report } = black_box(&mut self.areas);
             let (table, parameter) = (*black_box(&self.table), black_box(&self.parameter));
-            black_box(&side.segment(table, summary, store, report, self.association, parameter));
+            let (time, association) = (table.clock, self.association);
+            let arrival = Arrival { time, association, parameter };
+            black_box(&side.arrival(table, summary, store, report, arrival));
             if self.used == 0 {
                 // The row that it has got.
                 (summary.mark[0], summary.association[0]) = (0, 0);
                 summary.totals.iter_mut().for_each(|column| column[0] = 0);
             }
+        }
+    }
+}
+
+/// An arrival at a later time than the table's own.
+pub struct Later {
+    table: Table,
+    areas: Areas,
+    time: u32,
+    parameter: Vec<u8>,
+}
+
+impl Later {
+    /// A step with none due, and an unsegmented parameter.
+    pub fn idle(open: usize) -> Self {
+        Later::new(open, 1, Wire { new: true, ..Wire::default() }, 0)
+    }
+
+    /// All the sequences of a full table are due, and a first segment is saved in a place of theirs.
+    pub fn due() -> Self {
+        let first = Wire { new: true, remaining: 1, reference: Some(5), ..Wire::default() };
+        Later::new(PLACES, areas::TIMER, first, PLACES as u8)
+    }
+
+    fn new(open: usize, time: u32, wire: Wire, timeouts: u8) -> Self {
+        let (table, summary) = areas::table(open, |k| k as u16 % 3);
+        let mut areas = Areas::with(areas::seated(summary, [LATER]));
+        let parameter = Wire { context: 3, information: vec![7; 40], ..wire }.octets();
+        let arrival = Arrival { time, association: LATER, parameter: &parameter };
+        let Areas { summary, store, report } = &mut areas;
+        let got = Unbroken::PLAIN.arrival(table, summary, store, report, arrival);
+        assert!((got.refusal, got.timeouts) == (0, timeouts), "not the arrival that it should be");
+        Later { table, areas, time, parameter }
+    }
+}
+
+impl Work for Later {
+    fn calls(&self) -> usize {
+        CALLS
+    }
+
+    fn go<S: Side>(&mut self, side: &S) {
+        for _ in 0..CALLS {
+            let Areas { summary, store, report } = black_box(&mut self.areas);
+            let (table, parameter) = (*black_box(&self.table), black_box(&self.parameter));
+            let arrival = Arrival { time: black_box(self.time), association: LATER, parameter };
+            black_box(&side.arrival(table, summary, store, report, arrival));
         }
     }
 }

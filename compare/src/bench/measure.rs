@@ -62,12 +62,18 @@ impl Bench {
     fn calls(&mut self) {
         say("| calls | library / model | middle half | library | model |\n|---|---:|---:|---:|---:|");
         for others in [0, 4, 15] {
-            self.row(&format!("segments, {others} other sequences open"), Mix::new(others));
+            let name = format!("arrivals at the table's own time, {others} other sequences open");
+            self.row(&name, Mix::new(others));
         }
         for used in [0, 16, 64] {
-            let name = format!("segment, unsegmented, {used} rows used before");
-            self.row(&name, calls::Rows::new(used));
+            let own = "arrival at the table's own time, unsegmented";
+            self.row(&format!("{own}, {used} rows used before"), calls::Rows::new(used));
         }
+        for open in [0, 15] {
+            let name = format!("arrival, a step with none due of {open} open, unsegmented");
+            self.row(&name, calls::Later::idle(open));
+        }
+        self.row("arrival, a step with 16 due, a first segment saved", calls::Later::due());
         for open in [0, 15] {
             self.row(&format!("clock, none due of {open} open"), calls::Clock::new(open, 1));
         }
@@ -163,7 +169,7 @@ fn sizes() {
         ("place", size_of::<Place>()),
         ("summary", size_of::<Summary>()),
         ("answer of opening", size_of::<Opened>()),
-        ("answer of segment", size_of::<Received>()),
+        ("answer of arrival", size_of::<Received>()),
         ("of which the decision", size_of::<Decision>()),
         ("answer of clock and release", size_of::<Swept>()),
         ("answer of delivery", size_of::<Part>()),

@@ -63,12 +63,14 @@ impl Work for Mix {
     }
 }
 
-/// Each call gets the table that the call before it gave, and the summary as it left it.
+/// Each call gets the table that the call before it gave, and the summary as it left it. No time
+/// passes: an arrival has the table's own.
 pub fn receive<S: Side>(side: &S, mut table: Table, segments: &Segments, areas: &mut Areas) {
     for (association, parameter) in segments.iter() {
         let Areas { summary, store, report } = black_box(&mut *areas);
-        let parameter = black_box(parameter);
-        let got = side.segment(*black_box(&table), summary, store, report, association, parameter);
+        let (time, parameter) = (table.clock, black_box(parameter));
+        let arrival = Arrival { time, association, parameter };
+        let got = side.arrival(*black_box(&table), summary, store, report, arrival);
         table = black_box(&got).table;
     }
 }
@@ -175,8 +177,8 @@ mod tests {
         let (mut kinds, mut causes, mut table) = ([0; 5], [0; 6], mix.table);
         let Areas { summary, store, report } = &mut mix.areas;
         for (association, parameter) in mix.segments.iter() {
-            let got =
-                Unbroken::PLAIN.segment(table, summary, store, report, association, parameter);
+            let arrival = Arrival { time: table.clock, association, parameter };
+            let got = Unbroken::PLAIN.arrival(table, summary, store, report, arrival);
             kinds[usize::from(got.decision.kind)] += 1;
             causes[usize::from(got.decision.cause)] += 1;
             table = got.table;

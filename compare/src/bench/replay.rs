@@ -178,17 +178,19 @@ fn run(command: &mut Command, input: &Path, output: &Path) -> io::Result<f64> {
 fn trace(segments: usize) -> Vec<u8> {
     let mix = mix::segments();
     let mix: Vec<(u16, &[u8])> = mix.iter().collect();
-    let mut trace = Vec::with_capacity(segments * 260);
+    let mut trace = Vec::with_capacity(segments * 264);
     trace.extend(REGISTRY);
     trace.push(32);
     trace.extend(areas::TIMER.to_be_bytes());
     trace.extend(0_u32.to_be_bytes());
     for (k, (association, parameter)) in mix.iter().cycle().take(segments).enumerate() {
+        let time = ((k / TICK) as u32).to_be_bytes();
         if k % TICK == 0 {
             trace.push(34);
-            trace.extend(((k / TICK) as u32).to_be_bytes());
+            trace.extend(time);
         }
         trace.push(33);
+        trace.extend(time);
         trace.extend(association.to_be_bytes());
         trace.push(parameter.len() as u8);
         trace.extend(*parameter);

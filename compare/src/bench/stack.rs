@@ -19,7 +19,7 @@ use model::*;
 const WORDS: usize = 16_384;
 /// The arguments on the stack take less than this many words.
 const ARGUMENTS: usize = 256;
-const NAMES: [&str; 6] = ["opening", "segment", "clock", "release", "delivery", "sending"];
+const NAMES: [&str; 6] = ["opening", "arrival", "clock", "release", "delivery", "sending"];
 
 /// The library, called on the painted stack. The areas are checked nowhere: the calls are those
 /// that both sides have answered alike.
@@ -148,21 +148,22 @@ impl Side for Painted {
         })
     }
 
-    fn segment(
+    fn arrival(
         &self,
         table: Table,
         summary: &mut Summary,
         store: &mut [u8],
         report: &mut [u8],
-        association: u16,
-        parameter: &[u8],
+        arrival: Arrival,
     ) -> Received {
-        let function = library::egrynnol_segment as *const ();
+        let function = library::egrynnol_arrival as *const ();
+        let Arrival { time, association, parameter } = arrival;
         let (stores, reports) = (len(store), len(report));
         let (store, report) = (at_mut(store), at_mut(report));
         answered(|to| unsafe {
             let registers = [to, rows(summary), store, stores, report, reports];
-            let arguments = Arguments::default().with(table).with(u64::from(association));
+            let arguments = Arguments::default().with(table).with(u64::from(time));
+            let arguments = arguments.with(u64::from(association));
             let arguments = arguments.with(at(parameter)).with(len(parameter));
             self.call(1, function, registers, arguments)
         })
@@ -230,10 +231,11 @@ mod tests {
 
     fn answers(side: &dyn Side) -> Answers {
         let (mut summary, mut store, mut report) =
-            (Summary { mark: [7; ROWS], ..Summary::EMPTY }, vec![0; STORE], vec![0; SWEEP]);
-        let (rows, first) = (&mut summary, [0x83, 0x80, 0x41, 0x85, 0xAA]);
+            (Summary { mark: [7; ROWS], ..Summary::EMPTY }, vec![0; STORE], vec![0; ARRIVAL]);
+        let (rows, parameter) = (&mut summary, &[0x83, 0x80, 0x41, 0x85, 0xAA]);
         let opened = side.opening(rows, &REGISTRY, 100, 7);
-        let received = side.segment(opened.table, rows, &mut store, &mut report, 9, &first);
+        let arrival = Arrival { time: 11, association: 9, parameter };
+        let received = side.arrival(opened.table, rows, &mut store, &mut report, arrival);
         let ticked = side.clock(received.table, rows, &mut report, 57);
         let released = side.release(ticked.table, rows, &mut report, 9);
         (opened, received, ticked, released, summary, report)
@@ -245,7 +247,8 @@ mod tests {
         let painted = answers(&Painted::new());
         assert!(painted == answers(&library::Library));
         let (_, received, ticked, released, summary, _) = painted;
-        assert_eq!((received.refusal, ticked.table.clock, released.records), (0, 57, 1));
+        assert_eq!((received.refusal, received.table.places[0].start), (0, 11));
+        assert_eq!((ticked.table.clock, released.records), (57, 1));
         assert_eq!((summary.association[0], summary.totals[5][0]), (9, 1));
     }
 }

@@ -1,8 +1,9 @@
 //! Cases: inputs for one call, most of them on a live table that has gone through many calls.
 
+mod arriving;
 mod billing;
-mod receiving;
 mod sending;
+mod steps;
 
 use crate::input::{Answer, Input};
 use crate::pair::LONGEST_REPORT;
@@ -12,7 +13,18 @@ use crate::tables;
 use crate::unsound::{self, RULES};
 use model::*;
 
-pub use receiving::{damage_wire, end_inside};
+pub use arriving::{damage_wire, end_inside, NEVER, ORDER};
+
+/// 22 as the condition of an arrival's clock. The segment's is 22, and so is the answer to either.
+pub const CLOCK_22: u8 = 122;
+
+/// The number by which a condition is refused.
+fn number(condition: u8) -> u8 {
+    match condition {
+        CLOCK_22 => 22,
+        number => number,
+    }
+}
 
 pub struct Case {
     pub input: Input,
@@ -22,7 +34,8 @@ pub struct Case {
     pub rule: Option<usize>,
     /// Totals were set so that they just take what the call adds: it is not refused by 22.
     pub edge: bool,
-    /// The losses of one association pass 2^63 together, and none of them alone.
+    /// What one association loses by several places, or by the clock and by its segment, passes
+    /// 2^63 together, and none of it alone.
     pub together: bool,
 }
 
@@ -46,7 +59,7 @@ impl Case {
             Some(5..=9 | 23) if self.input.call() == 1 => {
                 matches!(refusal, 5..=9 | 23) && self.held.contains(&refusal)
             }
-            Some(first) => *first == refusal,
+            Some(first) => number(*first) == refusal,
         }
     }
 }
@@ -85,7 +98,7 @@ impl World {
         }
         match self.random.weighted(&[4, 60, 10, 5, 5, 16]) {
             0 => self.opening(),
-            1 => self.segment(),
+            1 => self.arrival(),
             2 => self.clock(),
             3 => self.release(),
             4 => self.delivery(),
@@ -93,11 +106,18 @@ impl World {
         }
     }
 
-    /// Goes on with the table that was answered, and the summary as the call left it. After most
-    /// calls at an edge it does not: little more would be taken.
+    /// Goes on with the table that was answered, and the summary as the call left it: also where an
+    /// arrival at the live table is refused, for its clock's work stands. After most calls at an edge
+    /// it does not: little more would be taken; nor after refusals that were asked for.
     pub fn absorb(&mut self, case: &Case, answer: &Answer, summary: &Summary) {
         let seldom = matches!(case.input, Input::Opening { .. }) || case.edge;
-        if let (0, Some(table)) = (answer.refusal(), answer.table()) {
+        let stands = match answer {
+            Answer::Received(Received { refusal: 4..=10 | 21 | 23, .. }, _) => {
+                case.held.is_empty() && case.input.table() == Some(&self.table)
+            }
+            _ => answer.refusal() == 0,
+        };
+        if let Some(table) = answer.table().filter(|_| stands) {
             if !seldom || self.random.one_in(10) {
                 (self.table, self.summary) = (*table, *summary);
             }
@@ -191,12 +211,11 @@ impl World {
         let mut state = self.state(&held);
         let (random, table) = (&mut self.random, state.table);
         let step = if held.contains(&13) {
-            let back = random.within(1..=1_000) as u32;
-            random.pick(&[1 << 31, (1 << 31) + 1, u32::MAX, 0u32.wrapping_sub(back)])
+            steps::bad(random)
         } else if held.contains(&22) {
-            due_step(random, &table)
+            steps::due(random, &table)
         } else {
-            good_step(random, &table)
+            steps::good(random, &table)
         };
         let time = table.clock.wrapping_add(step);
         let (edge, together) = billing::sweep(random, &mut state, &mut held, |summary, report| {
@@ -281,36 +300,6 @@ fn damage_entries(random: &mut Random, entries: &mut Vec<Entry>) {
         }
     };
     entries.insert(random.within(0..=entries.len()), bad);
-}
-
-/// A clock step below 2^31, often to the tick at which a sequence expires.
-fn good_step(random: &mut Random, table: &Table) -> u32 {
-    let timer = table.timer;
-    let place = table.places[random.below(PLACES)];
-    let left = timer.wrapping_sub(table.clock.wrapping_sub(place.start)) & (u32::MAX >> 1);
-    match random.weighted(&[45, 12, 12, 6, 2, 2, 8]) {
-        0 => random.below(4) as u32,
-        1 => left,
-        2 => left.saturating_sub(1),
-        3 => random.pick(&[timer, timer.saturating_sub(1), timer.saturating_add(1)]) % (1 << 31),
-        4 => (1 << 31) - 1,
-        5 => random.next() as u32 >> 1,
-        _ => random.below(timer.max(2) as usize / 2) as u32,
-    }
-}
-
-/// A clock step at which a sequence expires, if one is open.
-fn due_step(random: &mut Random, table: &Table) -> u32 {
-    let open: Vec<&Place> = table.places.iter().filter(|place| place.mark == 1).collect();
-    match random.below(3) {
-        0 => (1 << 31) - 1,
-        1 => table.timer,
-        _ if open.is_empty() => 0,
-        _ => {
-            let age = table.clock.wrapping_sub(random.pick(&open).start);
-            table.timer.wrapping_sub(age) & (u32::MAX >> 1)
-        }
-    }
 }
 
 fn sweep_room(random: &mut Random, held: &[u8]) -> usize {

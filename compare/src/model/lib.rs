@@ -1,4 +1,4 @@
-//! The model: a second implementation of document 01 (01-scope.md) and of A1 to A3 and A5 of
+//! The model: a second implementation of document 01 (01-scope.md) and of A1 to A3, A5 and A6 of
 //! document 02 (02-change-requests.md), against which the proved library is compared call by call.
 //!
 //! Independence. It was written from document 01 and the team's readings of it (readings.md);
@@ -15,7 +15,9 @@
 //! there was a library that had it. A5 (a position with 5 to 9 and 23, and at the end of a segment's
 //! line) was written from the same, before the header or a library had it: of its interface, only the
 //! field and the number for none were known. A refusal with its position was put into four octets
-//! later, for measuring.
+//! later, for measuring. A6 (`arrival`, and the time in a trace's segment) was written from the same,
+//! before the header or a library had it: of its interface, the arguments, the field for the clock's
+//! records and the programs' lines were known.
 //!
 //! Style. Bits are first read into small types in which only what is good can be written: a
 //! `Cursor` and `?` for the octets, `Turn` for octets 3 and 3a, `Line` for the receiving
@@ -24,6 +26,7 @@
 //!
 //! A `Fault` is there to show that the comparison can fail; `Model::PLAIN` has none.
 
+mod arrival;
 mod cursor;
 mod delivery;
 mod fault;

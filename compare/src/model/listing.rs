@@ -8,14 +8,29 @@ use crate::{Decision, Fault, Replay};
 use crate::{ADDRESS, DELIVERED, DESTINATION_AT, ORIGIN_AT, RECORD, UNSEGMENTED};
 
 impl<const B: bool> Replay<B> {
-    /// The rest of an event's line: its number, and what was decided.
-    pub(crate) fn told(&self, event: u64, refusal: u8, decision: &Decision, text: &mut String) {
-        let written = match (refusal, decision.kind) {
-            (0, 1) => write!(text, " {event} saved {}", decision.place),
-            (0, 2 | 3) => write!(text, " {event} delivered"),
-            (0, 4) => write!(text, " {event} lost"),
-            (0, _) => write!(text, " {event} -"),
-            _ => write!(text, " {event} refused {refusal}"),
+    /// The rest of an event's line: its number, how many of its records are the clock's where that
+    /// is told, and what was decided.
+    pub(crate) fn told(
+        &self,
+        refusal: u8,
+        decision: &Decision,
+        timeouts: Option<u8>,
+        text: &mut String,
+    ) {
+        let decided = match (refusal, decision.kind) {
+            (0, 1) => format!("saved {}", decision.place),
+            (0, 2 | 3) => "delivered".to_string(),
+            (0, 4) => "lost".to_string(),
+            (0, _) => "-".to_string(),
+            _ => format!("refused {refusal}"),
+        };
+        let event = self.events;
+        let written = match timeouts {
+            None => write!(text, " {event} {decided}"),
+            Some(timeouts) if self.model.broken(Fault::TimeoutsLast) => {
+                write!(text, " {event} {decided} {timeouts}")
+            }
+            Some(timeouts) => write!(text, " {event} {timeouts} {decided}"),
         };
         written.expect("a string takes it");
     }

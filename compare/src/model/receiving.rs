@@ -1,16 +1,17 @@
-//! Receiving a segment: the lines of document 01, what each does, and then doing it.
+//! Receiving a segment: the lines of document 01, what each does, and then doing it. The call that
+//! has it is an arrival (`arrival`), and the table is the one that the clock's work has left.
 
 use crate::record::{Covered, Record};
 use crate::refusal::Refused;
 use crate::segment::{Segment, Turn};
 use crate::sound::{without_destination, OPEN};
 use crate::summary::{bill, Bill, Seats};
-use crate::{Address, Decision, Fault, Key, Machine, Place, Received, Refusal, Summary, Table};
-use crate::{NOWHERE, OLD_RECORD, PARAMETER, PLACES, RECORD, STORE, STRETCH};
+use crate::{Address, Arrival, Decision, Fault, Key, Machine, Place, Received, Refusal};
+use crate::{Summary, Table, NOWHERE, PARAMETER, PLACES, STRETCH};
 
 /// The receiving line that applies, with the place it concerns.
 #[derive(Clone, Copy, Debug)]
-enum Line {
+pub(crate) enum Line {
     Unsegmented,
     /// Line 1, with the open sequence of the key.
     TooMany(Option<usize>),
@@ -40,81 +41,77 @@ struct Effect {
 }
 
 /// A segment that is not refused.
-struct Taken<'a> {
+pub(crate) struct Taken<'a> {
     segment: Segment<'a>,
-    line: Line,
-    /// The association's row, and what is added to it.
+    pub(crate) line: Line,
+    /// The association's row, and what the segment adds to it.
     row: usize,
     bill: Bill,
 }
 
-/// The lengths of the lent areas.
-struct Lengths {
-    store: usize,
-    report: usize,
-}
-
 impl<const B: bool> Machine<B> {
-    pub fn segment(
-        &self,
-        table: Table,
-        summary: &mut Summary,
-        store: &mut [u8],
-        report: &mut [u8],
-        association: u16,
-        parameter: &[u8],
-    ) -> Received {
-        let lengths = Lengths { store: store.len(), report: report.len() };
-        match self.judge(&table, summary, lengths, association, parameter) {
-            Ok(Taken { segment, line, row, bill }) => {
-                summary.add(row, association, &bill);
-                let effect = self.effect(&table, &segment, line);
-                self.carry_out(effect, &segment, table, store, report)
-            }
-            Err(refused) => {
-                let Refused { refusal, position } = refused;
-                if self.broken(Fault::RefusedReport) {
-                    report.iter_mut().take(1).for_each(|octet| *octet = refusal.number());
-                }
-                if self.broken(Fault::RefusedCounted) && refusal != Refusal::Unsound {
-                    count_refused(summary, association);
-                }
-                let position = self.told_position(position);
-                Received::refused(table, refusal.number(), position)
-            }
-        }
-    }
-
-    /// All the refusals, and what the segment leads to where there is none.
-    fn judge<'a>(
+    /// The segment's refusals, 4 to 10 and 21 to 23, and what it leads to where there is none.
+    /// `lost` is what the clock's work adds to the row of the association.
+    pub(crate) fn judge<'a>(
         &self,
         table: &Table,
         summary: &Summary,
-        lengths: Lengths,
-        association: u16,
-        parameter: &'a [u8],
+        seats: &Seats,
+        lost: &Bill,
+        arrival: Arrival<'a>,
     ) -> Result<Taken<'a>, Refused> {
-        self.sound(table)?;
-        let mut seats = Seats::EMPTY;
-        self.take_seats(&mut seats, summary, &table.places)?;
-        Refusal::ShortStore.unless(lengths.store >= STORE)?;
-        let least = if self.broken(Fault::OldReport) { OLD_RECORD } else { RECORD };
-        Refusal::ShortReport.unless(lengths.report >= least)?;
+        let Arrival { association, parameter, .. } = arrival;
         let long = Refusal::LongParameter.unless(parameter.len() <= PARAMETER);
         long.map_err(|refusal| self.placed(Fault::LongPlaced, refusal, PARAMETER))?;
         let segment = self.read(table, association, parameter)?;
         if self.broken(Fault::RowBeforeFull) {
-            self.seat(&seats, summary, association)?;
+            self.seat(seats, summary, association)?;
         }
         if self.broken(Fault::TotalBeforeFull) {
-            self.account(&seats, summary, association, &[1, 0, 0, 0, 0, 0])?;
+            self.account(seats, summary, association, &[1, 0, 0, 0, 0, 0])?;
         }
         let line = self.line(table, &segment);
         let line =
             line.map_err(|refusal| self.placed(Fault::FullPlaced, refusal, segment.start))?;
         let bill = self.bill_of(table, &segment, line);
-        let row = self.account(&seats, summary, association, &bill)?;
+        let lost = if self.broken(Fault::SumsApart) { &[0; 6] } else { lost };
+        let both = std::array::from_fn(|column| bill[column] + lost[column]);
+        let row = self.account(seats, summary, association, &both)?;
         Ok(Taken { segment, line, row, bill })
+    }
+
+    /// Does what a segment leads to, in the answer too. Its record goes to the front of this report.
+    pub(crate) fn take(
+        &self,
+        taken: Taken,
+        answer: &mut Received,
+        summary: &mut Summary,
+        store: &mut [u8],
+        report: &mut [u8],
+    ) {
+        let Taken { segment, line, row, bill } = taken;
+        summary.add(row, segment.key.association, &bill);
+        let effect = self.effect(&answer.table, &segment, line);
+        self.carry_out(effect, &segment, answer, store, report);
+    }
+
+    /// The answer of a refusal. Only a fault writes anything else.
+    pub(crate) fn turn_away(
+        &self,
+        refused: Refused,
+        answer: &mut Received,
+        summary: &mut Summary,
+        report: &mut [u8],
+        association: u16,
+    ) {
+        let Refused { refusal, position } = refused;
+        if self.broken(Fault::RefusedReport) {
+            report.iter_mut().take(1).for_each(|octet| *octet = refusal.number());
+        }
+        if self.broken(Fault::RefusedCounted) && refusal != Refusal::Unsound {
+            count_refused(summary, association);
+        }
+        (answer.refusal, answer.position) = (refusal.number(), self.told_position(position));
     }
 
     /// A refusal that is at no octet: only a fault says one.
@@ -220,7 +217,7 @@ impl<const B: bool> Machine<B> {
     }
 
     /// The open sequence of a key.
-    fn find(&self, table: &Table, key: &Key) -> Option<usize> {
+    pub(crate) fn find(&self, table: &Table, key: &Key) -> Option<usize> {
         table.places.iter().position(|place| place.is_open() && self.same(&place.key, key))
     }
 
@@ -231,7 +228,7 @@ impl<const B: bool> Machine<B> {
         }
     }
 
-    fn free(&self, table: &Table) -> Result<usize, Refusal> {
+    pub(crate) fn free(&self, table: &Table) -> Result<usize, Refusal> {
         let mut places = table.places.iter();
         let free = match self.fault() {
             Some(Fault::HighestFree) => places.rposition(|place| !place.is_open()),
@@ -261,26 +258,26 @@ impl<const B: bool> Machine<B> {
         &self,
         effect: Effect,
         segment: &Segment,
-        mut table: Table,
+        answer: &mut Received,
         store: &mut [u8],
         report: &mut [u8],
-    ) -> Received {
+    ) {
         if let Some((index, place)) = effect.place {
-            table.places[index] = place;
+            answer.table.places[index] = place;
         }
         if let Some(start) = effect.write {
             store[start..][..segment.information.len()].copy_from_slice(segment.information);
         }
-        // The report has been judged; only with its old length there is no room.
+        // The report has been judged; only with an old length there is no room.
         if let (Some(record), Some(slot)) = (&effect.record, report.first_chunk_mut()) {
             *slot = self.octets(record);
         }
-        let records = effect.record.iter().count() as u8;
-        let position = match self.broken(Fault::AcceptedPlaced) {
+        answer.decision = effect.decision;
+        answer.records = effect.record.iter().count() as u8;
+        answer.position = match self.broken(Fault::AcceptedPlaced) {
             true => segment.start as u16,
             false => self.told_position(NOWHERE),
         };
-        Received { table, decision: effect.decision, refusal: 0, records, position }
     }
 
     /// A segment that was never saved: the record has its own addresses.

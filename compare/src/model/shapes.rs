@@ -15,11 +15,13 @@ pub const LOST: u8 = 19;
 /// Where a record has its addresses: a length octet each, and the octets after it.
 pub const ORIGIN_AT: usize = 11;
 pub const DESTINATION_AT: usize = ORIGIN_AT + 1 + ADDRESS;
-/// A record's octets, and so the least report area of a segment.
+/// A record's octets.
 pub const RECORD: usize = DESTINATION_AT + 1 + ADDRESS;
-/// A clock or a release may end every sequence of the table.
+/// The least report area of a clock or a release, which may end every sequence of the table.
 pub const SWEEP: usize = PLACES * RECORD;
-/// The same before A3, when a record had no destination.
+/// That of an arrival, whose segment may have a record too.
+pub const ARRIVAL: usize = SWEEP + RECORD;
+/// A record before A3, when it had no destination, and the area of a clock or a release.
 pub const OLD_RECORD: usize = DESTINATION_AT;
 pub const OLD_SWEEP: usize = PLACES * OLD_RECORD;
 pub const PARAMETER: usize = 255;
@@ -153,21 +155,39 @@ pub struct Decision {
     pub cause: u8,
 }
 
+/// A parameter that arrives.
+#[derive(Clone, Copy, Debug, PartialEq, Eq)]
+pub struct Arrival<'a> {
+    pub time: u32,
+    pub association: u16,
+    pub parameter: &'a [u8],
+}
+
 #[repr(C)]
 #[derive(Clone, Copy, Debug, PartialEq, Eq)]
 pub struct Received {
     pub table: Table,
+    /// Of the segment.
     pub decision: Decision,
     pub refusal: u8,
+    /// The clock's and the segment's.
     pub records: u8,
     /// Of the octet at fault, or `NOWHERE`.
     pub position: u16,
+    /// How many of the records are the clock's: they are the first.
+    pub timeouts: u8,
 }
 
 impl Received {
-    /// The table as it came, and nothing made.
+    /// This table, and nothing made of a segment yet.
+    pub fn of(table: Table) -> Received {
+        let (decision, position) = (Decision::default(), NOWHERE);
+        Received { table, decision, refusal: 0, records: 0, position, timeouts: 0 }
+    }
+
+    /// This table, and nothing made.
     pub fn refused(table: Table, refusal: u8, position: u16) -> Received {
-        Received { table, decision: Decision::default(), refusal, records: 0, position }
+        Received { refusal, position, ..Received::of(table) }
     }
 }
 

@@ -1,4 +1,5 @@
-//! The two calls that end many sequences at once: the clock and a release.
+//! What ends many sequences at once: the clock's work, which a clock call has and an arrival, and a
+//! release.
 
 use crate::record::{Covered, Record};
 use crate::sound::age;
@@ -9,9 +10,9 @@ use crate::{OLD_SWEEP, PLACES, RECORD, ROWS, SWEEP};
 const HALF: u32 = 1 << 31;
 
 /// The open places that a call ends, in place order.
-struct Ending {
+pub(crate) struct Ending {
     indices: [u8; PLACES],
-    count: usize,
+    pub(crate) count: usize,
 }
 
 impl Ending {
@@ -28,6 +29,20 @@ impl Ending {
 
     fn indices(&self) -> impl Iterator<Item = usize> + '_ {
         self.indices[..self.count].iter().map(|index| usize::from(*index))
+    }
+
+    /// What an association loses by it.
+    pub(crate) fn lost_by(&self, association: u16, table: &Table) -> Bill {
+        let places = self.indices().map(|index| &table.places[index]);
+        let own = places.filter(|place| place.key.association == association).map(saved);
+        lost(own.fold([0, 0], |sum, one| [sum[0] + one[0], sum[1] + one[1]]))
+    }
+
+    /// For `Fault::OwnKept`.
+    pub(crate) fn spare(&mut self, spared: usize) {
+        let kept: Vec<usize> = self.indices().filter(|index| *index != spared).collect();
+        self.count = kept.len();
+        self.indices.iter_mut().zip(kept).for_each(|(index, kept)| *index = kept as u8);
     }
 }
 
@@ -53,7 +68,8 @@ impl<const B: bool> Machine<B> {
         time: u32,
     ) -> Swept {
         let mut seats = Seats::EMPTY;
-        match self.due(&table, summary, &mut seats, report.len(), time) {
+        let ready = self.ready(&table, summary, &mut seats, report.len());
+        match ready.and_then(|()| self.due(&table, summary, &seats, time)) {
             Err(refusal) => refused(table, refusal),
             Ok(ending) => {
                 self.bill(&table, summary, &seats, &ending);
@@ -62,16 +78,14 @@ impl<const B: bool> Machine<B> {
         }
     }
 
-    /// The clock's refusals, and what it ends.
-    fn due(
+    /// The refusals of the clock's work, 13 and 22, and what it ends.
+    pub(crate) fn due(
         &self,
         table: &Table,
         summary: &Summary,
-        seats: &mut Seats,
-        report: usize,
+        seats: &Seats,
         time: u32,
     ) -> Result<Ending, Refusal> {
-        self.ready(table, summary, seats, report)?;
         let due = |place: &Place| self.expired(time, place.start, table.timer);
         let ending = Ending::of(&table.places, due);
         if self.broken(Fault::TotalBeforeStep) {
@@ -82,7 +96,7 @@ impl<const B: bool> Machine<B> {
         Ok(ending)
     }
 
-    fn ahead(&self, step: u32) -> Result<(), Refusal> {
+    pub(crate) fn ahead(&self, step: u32) -> Result<(), Refusal> {
         Refusal::ClockStep.unless(step < HALF || self.broken(Fault::ClockHalf) && step == HALF)
     }
 
@@ -168,20 +182,37 @@ impl<const B: bool> Machine<B> {
         Refusal::LargeTotal.unless(good)
     }
 
-    fn bill(&self, table: &Table, summary: &mut Summary, seats: &Seats, ending: &Ending) {
+    pub(crate) fn bill(
+        &self,
+        table: &Table,
+        summary: &mut Summary,
+        seats: &Seats,
+        ending: &Ending,
+    ) {
         for index in ending.indices() {
             let (row, place) = (usize::from(seats.of_places[index]) % ROWS, &table.places[index]);
             summary.add(row, place.key.association, &lost(saved(place)));
         }
     }
 
-    /// Each place that ends gives one loss. The report holds one for each.
     fn sweep(&self, mut table: Table, report: &mut [u8], cause: u8, ending: &Ending) -> Swept {
-        for (index, slot) in ending.indices().zip(report.chunks_exact_mut(RECORD)) {
-            let place = &mut table.places[index];
-            slot.copy_from_slice(&self.octets(&Record { cause, covered: Covered::saved(place) }));
-            *place = self.freed(place);
-        }
+        self.record(&table, report, cause, ending);
+        self.clear(&mut table, ending);
         Swept { table, refusal: 0, records: ending.count as u8 }
+    }
+
+    /// Each place that ends gives one loss. The report holds one for each.
+    pub(crate) fn record(&self, table: &Table, report: &mut [u8], cause: u8, ending: &Ending) {
+        for (index, slot) in ending.indices().zip(report.chunks_exact_mut(RECORD)) {
+            let covered = Covered::saved(&table.places[index]);
+            slot.copy_from_slice(&self.octets(&Record { cause, covered }));
+        }
+    }
+
+    /// And is free.
+    pub(crate) fn clear(&self, table: &mut Table, ending: &Ending) {
+        for index in ending.indices() {
+            table.places[index] = self.freed(&table.places[index]);
+        }
     }
 }

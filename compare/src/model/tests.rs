@@ -1,4 +1,5 @@
-//! Document 01's worked examples, and the rules of A1, A2, A3 and A5.
+//! Document 01's worked examples, and the rules of A1, A2, A3, A5 and A6. Where a test is of the
+//! segment alone, it comes at the table's own time.
 
 use crate::*;
 
@@ -22,7 +23,7 @@ impl Host {
         let mut summary = Summary { mark: [7; ROWS], ..Summary::EMPTY };
         let opened = MODEL.opening(&mut summary, registry, 100, clock);
         assert_eq!((opened.refusal, summary), (0, Summary::EMPTY));
-        let (store, report) = (vec![0xEE; STORE], vec![0xEE; SWEEP]);
+        let (store, report) = (vec![0xEE; STORE], vec![0xEE; ARRIVAL]);
         Host { table: opened.table, summary, store, report }
     }
 
@@ -30,11 +31,21 @@ impl Host {
         self.segment_of(9, parameter)
     }
 
+    /// At the table's own time.
     fn segment_of(&mut self, association: u16, parameter: &[u8]) -> Received {
+        self.arrival(Arrival { time: self.table.clock, association, parameter })
+    }
+
+    fn arrival(&mut self, arrival: Arrival) -> Received {
         let Host { table, summary, store, report } = self;
-        let received = MODEL.segment(*table, summary, store, report, association, parameter);
+        let received = MODEL.arrival(*table, summary, store, report, arrival);
         self.table = received.table;
         received
+    }
+
+    /// Of association 9.
+    fn at(&mut self, time: u32, parameter: &[u8]) -> Received {
+        self.arrival(Arrival { time, association: 9, parameter })
     }
 
     fn clock(&mut self, time: u32) -> Swept {
@@ -257,11 +268,17 @@ fn m13_sending() {
     assert_eq!(send(2_048, [208, 208], 0), Err(18));
 }
 
-/// A trace's segment record of association 9.
+/// A trace's segment record of association 9, at time 0.
 fn event(parameter: &[u8]) -> Vec<u8> {
-    let mut record = vec![33, 0, 9, parameter.len() as u8];
+    event_at(0, parameter)
+}
+
+fn event_at(time: u32, parameter: &[u8]) -> Vec<u8> {
+    let mut record = vec![33];
+    record.extend(time.to_be_bytes());
+    record.extend([0, 9, parameter.len() as u8]);
     record.extend(parameter);
-    record.resize(1 + 2 + 1 + 255, 0xEE);
+    record.resize(1 + 4 + 2 + 1 + 255, 0xEE);
     record
 }
 
@@ -307,8 +324,8 @@ fn records_lines() {
         event(&[0x83, 0x80, 0x41, 0x86, 0xCC]),
         vec![35, 0, 8],
     ];
-    let expected = "open 0 0 0 0 1 -\nsegment 0 0 0 0 - 2 saved 0\nsegment 0 1 2 0 - 3 delivered\n\
-        delivered 9 3 5 1 0 2 2 - -\nsegment 0 0 0 0 - 4 saved 0\nrelease 0 0 0 0 5 -\nheld 9 3 6 0 0 1 1 - -\n";
+    let expected = "open 0 0 0 0 1 -\nsegment 0 0 0 0 - 2 0 saved 0\nsegment 0 1 2 0 - 3 0 delivered\n\
+        delivered 9 3 5 1 0 2 2 - -\nsegment 0 0 0 0 - 4 0 saved 0\nrelease 0 0 0 0 5 -\nheld 9 3 6 0 0 1 1 - -\n";
     assert_eq!(records(&trace), expected);
     let (zero, cut) = (vec![32; 1], vec![33]);
     let zero = [zero, vec![0; 8]].concat();
@@ -324,10 +341,10 @@ fn records_lines() {
         event(&[0x83, 0x82, 0xC0]),
         cut,
     ];
-    let expected = "open 0 0 0 0 1 -\nsegment 0 0 0 0 - 2 saved 0\nsegment 0 0 0 0 - 3 saved 1\n\
+    let expected = "open 0 0 0 0 1 -\nsegment 0 0 0 0 - 2 0 saved 0\nsegment 0 0 0 0 - 3 0 saved 1\n\
         open 12 0 0 0 4 refused 12\ndropped 9 4 5 0 0 1 1 0007 -\ndropped 9 3 5 1 0 1 1 - -\n\
-        segment 1 0 0 0 - 5 refused 1\nopen 0 0 0 0 6 -\nsegment 0 0 0 0 - 7 saved 0\n\
-        segment 0 1 0 0 - 8 delivered\ndelivered 9 3 - 2 0 1 0 - -\nheld 9 3 5 1 0 1 1 - -\nstop\n";
+        segment 1 0 0 0 - 5 0 refused 1\nopen 0 0 0 0 6 -\nsegment 0 0 0 0 - 7 0 saved 0\n\
+        segment 0 1 0 0 - 8 0 delivered\ndelivered 9 3 - 2 0 1 0 - -\nheld 9 3 5 1 0 1 1 - -\nstop\n";
     assert_eq!(records(&trace), expected);
 }
 
@@ -581,7 +598,7 @@ fn what_23_comes_after() {
     assert_eq!((refusal(&long(255)), refusal(&long(256))), (23, 4));
     let mut host = Host::open(0);
     assert_eq!(host.segment(&long(5)).refusal, 23);
-    host.report.truncate(RECORD - 1);
+    host.report.truncate(ARRIVAL - 1);
     assert_eq!(host.segment(&long(5)).refusal, 3);
     host.store.truncate(STORE - 1);
     assert_eq!(host.segment(&long(5)).refusal, 2);
@@ -659,7 +676,7 @@ fn equal_contexts_mean_equal_octets() {
 fn padded_lines() {
     let trace = [vec![1, 0, 3], OPEN.to_vec(), event(&[0x03, 0x80, 0x80, 0xC0, 0xAA])].concat();
     assert_eq!(MODEL.replay(&trace), "open 0 0 0 0\nsegment 23 0 0 0 1\n");
-    let expected = "open 0 0 0 0 1 -\nsegment 23 0 0 0 1 2 refused 23\n";
+    let expected = "open 0 0 0 0 1 -\nsegment 23 0 0 0 1 2 0 refused 23\n";
     assert_eq!(MODEL.printed(&trace, crate::Output::Records), expected);
     assert_eq!(MODEL.printed(&trace, crate::Output::Totals), "opening 1 0\n");
 }
@@ -674,8 +691,8 @@ fn towards(octet3: u8, destination: &[u8], information: &[u8]) -> Vec<u8> {
 const EXCHANGES: [&[u8]; 6] = [&[7], &[0, 7], &[7, 0], &[8], &[], &[0]];
 
 #[test]
-fn sizes_of_a3() {
-    assert_eq!((RECORD, SWEEP, OLD_RECORD, OLD_SWEEP), (53, 848, 32, 512));
+fn sizes_of_a3_and_a6() {
+    assert_eq!((RECORD, SWEEP, ARRIVAL, OLD_RECORD, OLD_SWEEP), (53, 848, 901, 32, 512));
     assert_eq!((DELIVERED, LOST), (18, 19));
 }
 
@@ -778,11 +795,12 @@ fn swept_destinations() {
 
 #[test]
 fn least_reports() {
-    for (length, refusal) in [(53, 0), (52, 3), (32, 3), (0, 3)] {
+    for length in 0..=ARRIVAL {
         let mut host = Host::open(0);
         host.report.truncate(length);
+        let refusal = if length == ARRIVAL { 0 } else { 3 };
         assert_eq!(host.segment(&ALONE).refusal, refusal, "{length}");
-        assert_eq!(host.report.iter().all(|octet| *octet == 0xEE), refusal != 0 || length == 0);
+        assert_eq!(host.report.iter().all(|octet| *octet == 0xEE), refusal != 0);
     }
     for (length, refusal) in [(848, 0), (847, 3), (512, 3), (53, 3), (0, 3)] {
         let mut host = Host::open(0);
@@ -867,11 +885,12 @@ fn destinations_in_lines() {
         OPEN.to_vec(),
         event(&[0x84, 0x80, 0x41, 0x85, 0, 3, 0, 0, 0x0F]),
     ];
-    let expected = "open 0 0 0 0 1 -\nsegment 0 0 0 0 - 2 saved 0\nsegment 0 1 3 0 - 3 delivered\n\
-        delivered 9 4 5 0 0 2 3 0007 0102\nsegment 0 1 0 1 - 4 lost\nlost 9 4 5 0 1 1 1 07 -\n\
-        segment 0 0 0 0 - 5 saved 0\nsegment 0 0 0 0 - 6 saved 1\nopen 0 0 0 0 7 -\n\
+    let expected =
+        "open 0 0 0 0 1 -\nsegment 0 0 0 0 - 2 0 saved 0\nsegment 0 1 3 0 - 3 0 delivered\n\
+        delivered 9 4 5 0 0 2 3 0007 0102\nsegment 0 1 0 1 - 4 0 lost\nlost 9 4 5 0 1 1 1 07 -\n\
+        segment 0 0 0 0 - 5 0 saved 0\nsegment 0 0 0 0 - 6 0 saved 1\nopen 0 0 0 0 7 -\n\
         dropped 9 4 5 0 0 1 0 0007 AB00\ndropped 9 4 5 0 0 1 0 0007 AB\n\
-        segment 0 0 0 0 - 8 saved 0\nheld 9 4 5 0 0 1 0 - 00000F\n";
+        segment 0 0 0 0 - 8 0 saved 0\nheld 9 4 5 0 0 1 0 - 00000F\n";
     assert_eq!(records(&trace), expected);
 }
 
@@ -912,11 +931,15 @@ fn nowhere() {
     assert_eq!(refused(&REGISTRY, &[0x05; 256]), (4, NOWHERE));
     let Host { mut summary, .. } = host;
     let unopened = Table::default();
-    for (table, store, report, number) in
-        [(unopened, STORE, RECORD, 1), (host.table, 1, RECORD, 2), (host.table, STORE, 1, 3)]
-    {
+    for (table, store, report, time, number) in [
+        (unopened, STORE, ARRIVAL, 0, 1),
+        (host.table, 1, ARRIVAL, 0, 2),
+        (host.table, STORE, 1, 0, 3),
+        (host.table, STORE, ARRIVAL, 1 << 31, 13),
+    ] {
         let (mut store, mut report) = (vec![0; store], vec![0; report]);
-        let received = MODEL.segment(table, &mut summary, &mut store, &mut report, 9, &[0x05]);
+        let arrival = Arrival { time, association: 9, parameter: &[0x05] };
+        let received = MODEL.arrival(table, &mut summary, &mut store, &mut report, arrival);
         assert_eq!((received.refusal, received.position), (number, NOWHERE));
     }
     for reference in 0x90..=0x9F {
@@ -944,9 +967,390 @@ fn positions_in_lines() {
     let expected = "segment 1 0 0 0 -\nopen 0 0 0 0\nsegment 6 0 0 0 1\nsegment 5 0 0 0 0\n\
         segment 0 1 5 0 -\nsegment 8 0 0 0 0\nclock 0 0 0 0\nrelease 0 0 0 0\nstop\n";
     assert_eq!(MODEL.replay(&trace.concat()), expected);
-    let expected = "segment 1 0 0 0 - 1 refused 1\nopen 0 0 0 0 2 -\n\
-        segment 6 0 0 0 1 3 refused 6\nsegment 5 0 0 0 0 4 refused 5\n\
-        segment 0 1 5 0 - 5 delivered\ndelivered 9 3 - 0 0 1 5 - -\n\
-        segment 8 0 0 0 0 6 refused 8\nclock 0 0 0 0 7 -\nrelease 0 0 0 0 8 -\nstop\n";
+    let expected = "segment 1 0 0 0 - 1 0 refused 1\nopen 0 0 0 0 2 -\n\
+        segment 6 0 0 0 1 3 0 refused 6\nsegment 5 0 0 0 0 4 0 refused 5\n\
+        segment 0 1 5 0 - 5 0 delivered\ndelivered 9 3 - 0 0 1 5 - -\n\
+        segment 8 0 0 0 0 6 0 refused 8\nclock 0 0 0 0 7 -\nrelease 0 0 0 0 8 -\nstop\n";
     assert_eq!(records(&trace), expected);
+}
+
+const BEGIN: [u8; 6] = [0x83, 0x81, 0x41, 0x90, 0xAA, 0xBB];
+
+/// A table with a sequence of two octets, begun at 0, that is due at 100.
+fn one_due() -> Host {
+    let mut host = Host::open(0);
+    assert_eq!(host.segment(&BEGIN).decision.kind, 1);
+    host
+}
+
+/// As many sequences as there are places, each of one octet, begun at 0.
+fn full() -> Host {
+    let mut host = Host::open(0);
+    (0x80..0x90).for_each(|reference| {
+        assert_eq!(host.segment(&[0x83, 0x80, 0x41, reference, reference]).decision.kind, 1);
+    });
+    host
+}
+
+/// The records of a report, and that the rest of it stayed.
+fn reported(host: &Host, received: &Received) -> Vec<Vec<u8>> {
+    let (made, rest) = host.report.split_at(RECORD * usize::from(received.records));
+    assert!(rest.iter().all(|octet| *octet == 0xEE));
+    made.chunks(RECORD).map(<[u8]>::to_vec).collect()
+}
+
+/// Everything a call could change, but for the table it answers.
+fn state(host: &Host) -> (Summary, Vec<u8>, Vec<u8>) {
+    (host.summary, host.store.clone(), host.report.clone())
+}
+
+/// Refused, with everything as it came.
+fn undone(host: &mut Host, time: u32, parameter: &[u8]) -> u8 {
+    let before = (host.table, state(host));
+    let received = host.at(time, parameter);
+    assert_eq!(received, Received::refused(before.0, received.refusal, NOWHERE));
+    assert_eq!((host.table, state(host)), before);
+    received.refusal
+}
+
+/// The sequence is lost by the timer, and then its segment is judged: it has none to go on with.
+#[test]
+fn a_segment_whose_arrival_times_its_sequence_out() {
+    let lost = record(19, 3, [0x10, 1, 6, 1], 2);
+    for (octet3, cause) in [(0x00, 1), (0x03, 1), (0x0A, 4), (0x4A, 4)] {
+        let mut host = one_due();
+        let received = host.at(100, &[0x83, 0x82, octet3, 0x90, 0xCC]);
+        assert_eq!((received.refusal, received.records, received.timeouts), (0, 2, 1));
+        assert_eq!((received.decision.kind, received.decision.cause), (4, cause));
+        assert_eq!(received.decision.place, PLACES);
+        let own = record(19, 3, [0x10, 2, cause, 1], 1);
+        assert_eq!(reported(&host, &received), [lost.clone(), own]);
+        assert_eq!((host.open_places(), host.table.clock), (0, 100));
+        assert_eq!(host.rows(), [(0, 9, [2, 3, 0, 0, 2, 3])]);
+    }
+    // A first one begins it anew: nothing is left to restart.
+    let mut host = one_due();
+    let received = host.at(100, &[0x83, 0x82, 0x41, 0x90, 0xCC]);
+    assert_eq!((received.records, received.timeouts, received.decision.kind), (1, 1, 1));
+    assert_eq!(reported(&host, &received), [lost]);
+    assert_eq!(host.rows(), [(0, 9, [2, 3, 0, 0, 1, 2])]);
+    // One tick earlier it is in time.
+    let mut host = one_due();
+    let received = host.at(99, &[0x83, 0x82, 0x00, 0x90, 0xCC]);
+    assert_eq!((received.records, received.timeouts, received.decision.kind), (1, 0, 3));
+    assert_eq!(host.data(&received, &[]), [0xAA, 0xBB, 0xCC]);
+}
+
+/// Neither the table's old time nor a later segment sets the start.
+#[test]
+fn the_start_is_the_arrivals_time() {
+    let mut host = Host::open(4_294_967_290);
+    let received = host.at(5, &BEGIN);
+    assert_eq!((received.table.places[0].start, received.table.clock), (5, 5));
+    let received = host.at(8, &[0x83, 0x80, 0x41, 0x91]);
+    assert_eq!((received.table.places[1].start, received.table.places[0].start), (8, 5));
+    let received = host.at(9, &BEGIN);
+    assert_eq!((received.decision.cause, received.table.places[0].start), (3, 9));
+    assert_eq!(host.segment(&[0x83, 0x80, 0x43, 0x92]).table.places[2].start, 9);
+    let received = host.at(12, &[0x83, 0x80, 0x02, 0x92]);
+    assert_eq!((received.table.places[2].start, received.table.clock), (9, 12));
+    // From its own time on, each is due after T ticks.
+    assert_eq!(host.clock(107).records, 0);
+    assert_eq!((host.clock(108).records, host.clock(109).records), (1, 2));
+}
+
+/// A full table has room again when the arrival's clock has emptied a place, and not before.
+#[test]
+fn a_place_that_is_freed_is_taken() {
+    let first = [0x83, 0x80, 0x42, 0xFF, 0xDD];
+    let mut host = full();
+    assert_eq!((host.segment(&first).refusal, host.at(99, &first).refusal), (10, 10));
+    let received = host.at(100, &first);
+    assert_eq!((received.refusal, received.records, received.timeouts), (0, 16, 16));
+    assert_eq!((received.decision.kind, received.decision.place), (1, 0));
+    assert_eq!((host.open_places(), host.table.places[0].start), (1, 100));
+    assert_eq!(host.store[..2], [0xDD, 0xEE]);
+    let mut host = full();
+    host.at(50, &[0x83, 0x80, 0x00, 0x87]);
+    host.at(50, &[0x83, 0x80, 0x41, 0x87]);
+    for index in (0..PLACES).filter(|index| *index != 5) {
+        host.table.places[index].start = 50;
+    }
+    let received = host.at(100, &first);
+    assert_eq!((received.records, received.timeouts, received.decision.place), (1, 1, 5));
+    assert_eq!(host.open_places(), PLACES);
+    assert_eq!(host.report[..RECORD], record(19, 3, [5, 0, 6, 1], 1));
+}
+
+/// All the sequences and the segment: the clock's in place order, and the segment's behind them.
+#[test]
+fn seventeen_records() {
+    let mut host = full();
+    let received = host.at(u32::MAX >> 1, &ALONE);
+    assert_eq!((received.refusal, received.records, received.timeouts), (0, 17, 16));
+    assert_eq!(host.data(&received, &ALONE), [0xAA, 0xBB]);
+    let records = reported(&host, &received);
+    for (reference, lost) in records[..16].iter().enumerate() {
+        assert_eq!(*lost, record(19, 3, [reference as u8, 0, 6, 1], 1));
+    }
+    assert_eq!(records[16], record(18, 3, [255, 0, 0, 1], 2));
+    assert_eq!(host.rows(), [(0, 9, [17, 18, 1, 2, 16, 16])]);
+}
+
+/// The clock's work stands where the segment is refused by 4 to 10, 21 or 23: table, summary and
+/// report have it, and the number and its position are the segment's.
+#[test]
+fn refused_beside_a_loss() {
+    let long = [0x05; 256];
+    let cases: &[(&[u8], u8, u16)] = &[
+        (&long, 4, NOWHERE),
+        (&[0x83, 0x80], 5, 2),
+        (&[0x83, 0x00], 6, 1),
+        (&[0x83, 0x80, 0x40, 0x85], 7, 2),
+        (&[0x85], 8, 0),
+        (&[0x84, 0x80, 0xC0, 0x15], 9, 3),
+        (&[0x03, 0x80], 23, 1),
+    ];
+    for (parameter, number, position) in cases {
+        let mut host = one_due();
+        let store = host.store.clone();
+        let received = host.at(100, parameter);
+        let table = Table { clock: 100, ..Host::open(0).table };
+        let refused = Received::refused(table, *number, *position);
+        assert_eq!(received, Received { records: 1, timeouts: 1, ..refused });
+        assert_eq!(reported(&host, &received), [record(19, 3, [0x10, 1, 6, 1], 2)]);
+        assert_eq!((host.store == store, host.rows()), (true, vec![(0, 9, [1, 2, 0, 0, 1, 2])]));
+    }
+    let mut host = one_due();
+    (1_000..1_063).for_each(|who| assert_eq!(host.segment_of(who, &ALONE).refusal, 0));
+    host.report.fill(0xEE);
+    let received = host.arrival(Arrival { time: 100, association: 8, parameter: &ALONE });
+    let Received { refusal, records, timeouts, position, .. } = received;
+    assert_eq!((refusal, records, timeouts, position), (21, 1, 1, NOWHERE));
+    assert_eq!((host.rows().len(), host.rows()[0].2), (64, [1, 2, 0, 0, 1, 2]));
+    assert_eq!((reported(&host, &received).len(), host.open_places()), (1, 0));
+}
+
+/// With none due, the time is all that stands beside a refusal.
+#[test]
+fn refused_with_none_due() {
+    for (mut host, parameter, number) in
+        [(full(), &[0x83, 0x80, 0x41, 0xFF][..], 10), (one_due(), &[0x85], 8)]
+    {
+        let (table, before) = (host.table, state(&host));
+        let received = host.at(42, parameter);
+        assert_eq!((received.refusal, received.records, received.timeouts), (number, 0, 0));
+        assert_eq!(received.table, Table { clock: 42, ..table });
+        assert!(state(&host) == before);
+    }
+}
+
+/// 22 on either part undoes both: the time, the losses and the segment.
+#[test]
+fn a_22_undoes_both_parts() {
+    // The clock's, whatever the segment is, and whoever sends it.
+    for parameter in [&ALONE[..], &FIRST, &[0x85], &[0x05; 256]] {
+        for association in [9, 8] {
+            let mut host = one_due();
+            host.summary.totals[5][0] = TOTAL_MOST - 1;
+            let (table, before) = (host.table, state(&host));
+            let received = host.arrival(Arrival { time: 100, association, parameter });
+            assert_eq!(received, Received::refused(table, 22, NOWHERE));
+            assert!(state(&host) == before);
+            // At the table's own time nothing is lost, and nothing too large.
+            assert_ne!(host.segment_of(association, parameter).refusal, 22);
+        }
+    }
+    // The segment's, beside losses of its own association and of another.
+    for association in [9, 8] {
+        let mut host = one_due();
+        host.segment_of(association, &ALONE);
+        let row = host.rows().len() - 1;
+        host.summary.totals[0][row] = TOTAL_MOST;
+        let (table, before) = (host.table, state(&host));
+        let received = host.arrival(Arrival { time: 100, association, parameter: &ALONE });
+        assert_eq!(received, Received::refused(table, 22, NOWHERE));
+        assert!(state(&host) == before);
+        assert_eq!((host.clock(100).refusal, host.open_places()), (0, 0));
+    }
+}
+
+/// Two octets by the timer and one by the segment: what is added to one total counts together.
+#[test]
+fn judged_with_the_clocks_sums() {
+    let orphan = [0x83, 0x80, 0x00, 0x90, 0xCC];
+    for (column, both) in [(4, 2), (5, 3)] {
+        let mut host = one_due();
+        host.summary.totals[column][0] = TOTAL_MOST - both + 1;
+        assert_eq!(undone(&mut host, 100, &orphan), 22);
+        // Each alone has room.
+        let (table, summary) = (host.table, host.summary);
+        assert_eq!(host.clock(100).refusal, 0);
+        (host.table, host.summary) = (table, summary);
+        assert_eq!(host.segment(&[0x83, 0x80, 0x00, 0x91, 0xCC]).refusal, 0);
+        let mut host = one_due();
+        host.summary.totals[column][0] = TOTAL_MOST - both;
+        assert_eq!((host.at(100, &orphan).refusal, host.rows()[0].2[column]), (0, TOTAL_MOST));
+    }
+    // What only the clock adds to is judged once; what nothing is added to stays.
+    let mut host = one_due();
+    (host.summary.totals[5][0], host.summary.totals[4][0]) = (TOTAL_MOST - 2, TOTAL_MOST - 1);
+    assert_eq!(host.at(100, &ALONE).refusal, 0);
+    assert_eq!((host.rows()[0].2[4], host.rows()[0].2[5]), (TOTAL_MOST, TOTAL_MOST));
+    let mut host = one_due();
+    host.summary.totals[5][0] = u64::MAX;
+    assert_eq!((host.at(99, &ALONE).refusal, host.rows()[0].2[5]), (0, u64::MAX));
+}
+
+/// 1, 2, 3 and 13, then the clock's 22, then 4, 5 to 9 and 23, 10, 21 and the segment's 22. All of
+/// them hold at first, or all that can; in turn each is mended.
+#[test]
+fn an_arrivals_refusals_in_order() {
+    const BACK: u32 = u32::MAX;
+    let mut host = full();
+    (1_000..1_063).for_each(|who| assert_eq!(host.segment_of(who, &ALONE).refusal, 0));
+    let [stranger, other] = [8, 1_000];
+    host.summary.totals[4][0] = TOTAL_MOST;
+    host.summary.totals[0][1] = TOTAL_MOST;
+    host.store.truncate(STORE - 1);
+    host.report = vec![0xEE; ARRIVAL - 1];
+    host.table.places[3].instruction = 4;
+    let mut refusal = |mend: &dyn Fn(&mut Host), time: u32, association: u16, parameter: &[u8]| {
+        mend(&mut host);
+        let arrival = Arrival { time, association, parameter };
+        let received = host.arrival(arrival);
+        assert_eq!((received.records, received.timeouts), (0, 0));
+        received.refusal
+    };
+    let (long, padded) = ([0x03; 256], [0x03, 0x80]);
+    let begin = [0x83, 0x80, 0x41, 0xFF];
+    assert_eq!(refusal(&|_| {}, BACK, stranger, &long), 1);
+    assert_eq!(refusal(&|host| host.table.places[3].instruction = 0, BACK, stranger, &long), 2);
+    assert_eq!(refusal(&|host| host.store.push(0), BACK, stranger, &long), 3);
+    assert_eq!(refusal(&|host| host.report.push(0xEE), BACK, stranger, &long), 13);
+    assert_eq!(refusal(&|_| {}, 100, stranger, &long), 22);
+    assert_eq!(refusal(&|_| {}, 100, stranger, &padded), 22);
+    assert_eq!(refusal(&|_| {}, 100, stranger, &begin), 22);
+    assert_eq!(refusal(&|_| {}, 1, stranger, &long), 4);
+    assert_eq!(refusal(&|_| {}, 1, stranger, &padded), 23);
+    assert_eq!(refusal(&|_| {}, 2, stranger, &[0x85]), 8);
+    assert_eq!(refusal(&|_| {}, 2, stranger, &begin), 10);
+    assert_eq!(refusal(&|_| {}, 2, other, &begin), 10);
+    assert_eq!(refusal(&|_| {}, 3, stranger, &ALONE), 21);
+    assert_eq!(refusal(&|_| {}, 3, other, &ALONE), 22);
+}
+
+/// A short store and a bad step is 2, a short report and a bad step 3, and a table that is not
+/// sound 1.
+#[test]
+fn areas_before_the_step() {
+    for (store, report, number) in
+        [(STORE - 1, ARRIVAL, 2), (0, 0, 2), (STORE, ARRIVAL - 1, 3), (STORE, ARRIVAL, 13)]
+    {
+        let mut host = one_due();
+        host.store.truncate(store);
+        host.report.truncate(report);
+        for time in [1 << 31, u32::MAX, (1 << 31) + 1] {
+            assert_eq!(undone(&mut host, time, &ALONE), number);
+        }
+        host.table.timer = 0;
+        assert_eq!(undone(&mut host, u32::MAX, &ALONE), 1);
+    }
+    let mut host = one_due();
+    assert_eq!(host.at((1 << 31) - 1, &ALONE).refusal, 0);
+}
+
+/// The report is asked for whole, even where nothing is due; the clock and a release ask for less.
+#[test]
+fn an_arrivals_report() {
+    for length in [0, 53, 847, 848, 900] {
+        let mut host = one_due();
+        host.report.truncate(length);
+        for time in [0, 1, 100] {
+            assert_eq!(undone(&mut host, time, &ALONE), 3, "{length}");
+        }
+        let expected = if length < SWEEP { 3 } else { 0 };
+        assert_eq!((host.clock(1).refusal, host.release(8).refusal), (expected, expected));
+    }
+}
+
+/// An arrival is a clock call and then an arrival at that time, wherever neither meets 22.
+#[test]
+fn an_arrival_is_two_calls() {
+    let parameters: &[&[u8]] =
+        &[&ALONE, &BEGIN, &FIRST, &NEXT, &ORPHAN, &[0x83, 0x80, 0, 0x90], &[0x85], &[]];
+    for (start, parameter) in
+        [0, u32::MAX - 60].iter().flat_map(|start| parameters.iter().map(move |p| (*start, p)))
+    {
+        for step in (0..=210).chain([(1 << 31) - 1]) {
+            let time = start.wrapping_add(step);
+            let mut host = Host::open(start);
+            host.segment(&FIRST);
+            host.at(start.wrapping_add(40), &[0x83, 0x81, 0x42, 0x90, 1]);
+            host.segment_of(7, &FIRST);
+            let age = host.table.clock.wrapping_sub(start);
+            let (store, report) = (host.store.clone(), host.report.clone());
+            let mut other = Host { store, report, ..host };
+            let one = host.at(time, parameter);
+            let swept = other.clock(time);
+            if step < age {
+                assert_eq!((one.refusal, swept.refusal), (13, 13));
+                continue;
+            }
+            let mut lost = other.report[..RECORD * usize::from(swept.records)].to_vec();
+            let two = other.at(time, parameter);
+            let own = usize::from(two.records);
+            lost.extend(&other.report[..RECORD * own]);
+            let records = swept.records + two.records;
+            assert_eq!(one, Received { records, timeouts: swept.records, ..two });
+            assert_eq!((host.summary, &host.store), (other.summary, &other.store));
+            assert_eq!(host.report[..lost.len()], lost);
+        }
+    }
+}
+
+/// The time stands before the association, most significant octet first. The line is named as
+/// before, and a refused segment's has what the clock lost.
+#[test]
+fn timed_segments_in_a_trace() {
+    assert_eq!(event_at(0, &[]).len(), 1 + 262);
+    let trace = [
+        vec![1, 0, 3],
+        OPEN.to_vec(),
+        event_at(2, &BEGIN),
+        event_at(3, &[0x83, 0x80, 0x42, 0x91, 0xCC]),
+        event_at(102, &[0x85]),
+        event_at(101, &ALONE),
+        event_at(103, &[0x83, 0x80, 0x01, 0x91, 0xDD, 0xDD]),
+        event_at(1_000, &ALONE),
+        vec![34, 0, 0, 3, 0xE8],
+        event_at(1_000, &BEGIN),
+        event_at(0x4000_0000, &ALONE),
+        event_at(0xC000_0000, &ALONE),
+    ];
+    let expected = "open 0 0 0 0\nsegment 0 0 0 0 -\nsegment 0 0 0 0 -\nsegment 8 1 0 2 0\n\
+        segment 13 0 0 0 -\nsegment 0 2 0 3 -\nsegment 0 1 2 0 -\nclock 0 0 0 0\n\
+        segment 0 0 0 0 -\nsegment 0 2 2 2 -\nsegment 13 0 0 0 -\n";
+    assert_eq!(MODEL.replay(&trace.concat()), expected);
+    let expected = "open 0 0 0 0 1 -\nsegment 0 0 0 0 - 2 0 saved 0\nsegment 0 0 0 0 - 3 0 saved 1\n\
+        segment 8 1 0 2 0 4 1 refused 8\nlost 9 3 16 1 6 1 2 - -\nsegment 13 0 0 0 - 5 0 refused 13\n\
+        segment 0 2 0 3 - 6 1 lost\nlost 9 3 17 0 6 1 1 - -\nlost 9 3 17 0 1 1 2 - -\n\
+        segment 0 1 2 0 - 7 0 delivered\ndelivered 9 3 - 0 0 1 2 - -\nclock 0 0 0 0 8 -\n\
+        segment 0 0 0 0 - 9 0 saved 0\nsegment 0 2 2 2 - 10 1 delivered\nlost 9 3 16 1 6 1 2 - -\n\
+        delivered 9 3 - 0 0 1 2 - -\nsegment 13 0 0 0 - 11 0 refused 13\n";
+    assert_eq!(records(&trace), expected);
+    let totals = MODEL.printed(&trace.concat(), crate::Output::Totals);
+    assert_eq!(totals, "opening 1 0\n9 6 11 2 4 4 7\n");
+}
+
+/// A record of kind 33 is whole with 263 octets, and cut with fewer, as one of before A6 is.
+#[test]
+fn the_length_of_a_timed_segment() {
+    let front = [&[1, 0, 3], &OPEN[..]].concat();
+    let whole = event_at(7, &ALONE);
+    for length in 1..=whole.len() {
+        let trace = [&front[..], &whole[..length]].concat();
+        let line = if length == whole.len() { "segment 0 1 2 0 -" } else { "stop" };
+        assert_eq!(MODEL.replay(&trace), format!("open 0 0 0 0\n{line}\n"));
+    }
 }

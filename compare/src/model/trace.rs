@@ -3,8 +3,8 @@
 use std::fmt::Write;
 
 use crate::cursor::Cursor;
-use crate::{Decision, Fault, Machine, Received, Summary, Swept, Table};
-use crate::{DELIVERED, LOST, NOWHERE, OLD_RECORD, PARAMETER, RECORD, STORE, SWEEP};
+use crate::{Arrival, Decision, Fault, Machine, Received, Summary, Swept, Table};
+use crate::{ARRIVAL, DELIVERED, LOST, NOWHERE, OLD_RECORD, PARAMETER, RECORD, STORE};
 
 /// Which program's text is printed.
 #[derive(Clone, Copy, Debug, PartialEq, Eq)]
@@ -21,7 +21,7 @@ pub enum Output {
 enum Item<'a> {
     Register,
     Open { timer: u32, clock: u32 },
-    Segment { association: u16, parameter: &'a [u8] },
+    Segment(Arrival<'a>),
     Clock(u32),
     Release(u16),
 }
@@ -39,8 +39,9 @@ struct Told {
     refusal: u8,
     records: u8,
     decision: Decision,
-    /// Of a segment alone.
+    /// Of a segment alone, and so the next.
     position: Option<u16>,
+    timeouts: Option<u8>,
 }
 
 /// A replay that is under way: table, summary, lent areas and the registry as read so far.
@@ -50,13 +51,13 @@ pub struct Replay<const B: bool> {
     registry: Vec<u8>,
     opened: bool,
     stopped: bool,
-    events: u64,
+    pub(crate) events: u64,
     /// The last opening: its event and its refusal.
     pub(crate) opening: Option<(u64, u8)>,
     pub(crate) table: Table,
     pub(crate) summary: Summary,
     store: Vec<u8>,
-    pub(crate) report: [u8; SWEEP],
+    pub(crate) report: [u8; ARRIVAL],
 }
 
 impl<const B: bool> Machine<B> {
@@ -97,10 +98,11 @@ fn open<'a>(cursor: &mut Cursor<'a>) -> Option<Item<'a>> {
 }
 
 fn segment<'a>(cursor: &mut Cursor<'a>) -> Option<Item<'a>> {
+    let time = u32::from_be_bytes(cursor.array()?);
     let association = u16::from_be_bytes(cursor.array()?);
     let length = cursor.octet()?;
     let parameter = &cursor.take(PARAMETER)?[..usize::from(length)];
-    Some(Item::Segment { association, parameter })
+    Some(Item::Segment(Arrival { time, association, parameter }))
 }
 
 /// For `Fault::RecordsPassed`: passes over whole records of deliveries and losses.
@@ -117,9 +119,27 @@ fn pass_records(cursor: &mut Cursor) {
     }
 }
 
+/// For the faults of reading a time.
+fn mistimed(fault: Fault, arrival: Arrival) -> Arrival {
+    let Arrival { time, association, .. } = arrival;
+    let (high, low) = ((time >> 16) as u16, time << 16);
+    match fault {
+        Fault::TimeLate => {
+            Arrival { time: low | u32::from(association), association: high, ..arrival }
+        }
+        Fault::TimeLittleEndian => Arrival { time: time.swap_bytes(), ..arrival },
+        _ => arrival,
+    }
+}
+
+/// What is told of an event that is no segment.
+fn plainly_told(name: &'static str, refusal: u8, records: u8) -> Told {
+    let decision = Decision::default();
+    Told { name, refusal, records, decision, position: None, timeouts: None }
+}
+
 fn swept_told(name: &'static str, swept: &Swept) -> Told {
-    let Swept { refusal, records, .. } = *swept;
-    Told { name, refusal, records, decision: Decision::default(), position: None }
+    plainly_told(name, swept.refusal, swept.records)
 }
 
 impl<const B: bool> Replay<B> {
@@ -135,7 +155,7 @@ impl<const B: bool> Replay<B> {
             table: Table::default(),
             summary: Summary::EMPTY,
             store: vec![0; STORE],
-            report: [0; SWEEP],
+            report: [0; ARRIVAL],
         }
     }
 
@@ -218,7 +238,7 @@ impl<const B: bool> Replay<B> {
                 if !last {
                     self.position(told, text);
                 }
-                self.told(self.events, told.refusal, &told.decision, text);
+                self.told(told.refusal, &told.decision, self.timeouts(told), text);
                 if last {
                     self.position(told, text);
                 }
@@ -232,23 +252,16 @@ impl<const B: bool> Replay<B> {
 
     /// Makes the event's call.
     fn event(&mut self, item: Item) -> Told {
-        let Replay { model, table, summary, store, report, .. } = self;
-        let decision = Decision::default();
+        let Replay { model, table, summary, report, .. } = self;
         match item {
             Item::Register => unreachable!("it is no event"),
             Item::Open { timer, clock } => {
                 let opened = model.opening(summary, &self.registry, timer, clock);
                 *table = opened.table;
                 (self.opened, self.opening) = (true, Some((self.events, opened.refusal)));
-                let refusal = opened.refusal;
-                Told { name: "open", refusal, records: 0, decision, position: None }
+                plainly_told("open", opened.refusal, 0)
             }
-            Item::Segment { association, parameter } => {
-                let got = model.segment(*table, summary, store, report, association, parameter);
-                *table = got.table;
-                let Received { decision, refusal, records, position, .. } = got;
-                Told { name: "segment", refusal, records, decision, position: Some(position) }
-            }
+            Item::Segment(arrival) => self.segment(arrival),
             Item::Clock(time) => {
                 let swept = model.clock(*table, summary, report, time);
                 *table = swept.table;
@@ -260,6 +273,19 @@ impl<const B: bool> Replay<B> {
                 swept_told("release", &swept)
             }
         }
+    }
+
+    fn segment(&mut self, arrival: Arrival) -> Told {
+        let Replay { model, table, summary, store, report, .. } = self;
+        let arrival = model.fault().map_or(arrival, |fault| mistimed(fault, arrival));
+        let got = model.arrival(*table, summary, store, report, arrival);
+        *table = got.table;
+        let Received { decision, refusal, mut records, position, timeouts, .. } = got;
+        if refusal != 0 && model.broken(Fault::RefusedUntold) {
+            records = 0;
+        }
+        let (position, timeouts) = (Some(position), Some(timeouts));
+        Told { name: "segment", refusal, records, decision, position, timeouts }
     }
 
     /// The replay program's line without the position and the end.
@@ -282,6 +308,15 @@ impl<const B: bool> Replay<B> {
             Some(position) => write!(text, " {position}"),
         };
         written.expect("a string takes it");
+    }
+
+    /// How many of an event's records are the clock's, if it is told.
+    fn timeouts(&self, told: &Told) -> Option<u8> {
+        match self.model.fault() {
+            Some(Fault::TimeoutsUntold) => None,
+            Some(Fault::TimeoutsEverywhere) => told.timeouts.or(Some(0)),
+            _ => told.timeouts,
+        }
     }
 
     /// Octets delivered and octets lost, by the records that this call made.

@@ -4,14 +4,16 @@ use native.Mathlib.Omega.{arith}
 use borrow.Author.Tests.{ne-eqb}
 use mathlib.Core.Path.{_≡_, refl, sym, ap, subst, _∙_}
 use mathlib.Core.List.{List, []}
-use lib.ListN.{length}
+use lib.ListN.{length, length-map}
 use Rattle.rules.specs.Numbers.{placeCount}
 use Rattle.rules.specs.Places.{holds, placeOf, numberOf, foundAt}
 use Rattle.rules.specs.Delivery.{delivery}
 use Rattle.rules.specs.Receiving.{Reception, keyOf, effectOf}
-use Rattle.rules.specs.Summary.{Counted, segmentWith, emptySummary}
+use Rattle.rules.specs.Summary.{Counted, emptySummary}
+use Rattle.rules.specs.Sweep.{sweep}
+use Rattle.rules.specs.Arrival.{clockWork, tableAfter, arrival}
 use Rattle.rules.specs.Layout.{fieldsOf}
-use Rattle.rules.specs.Promises.{OfOpening, OfSegment, OfClock, OfRelease, OfSending}
+use Rattle.rules.specs.Promises.{OfOpening, OfArrival, OfClock, OfRelease, OfSending}
 use Rattle.rules.specs.Calls.{State, stateOf, step, toArrive, toTick, toRelease, toSend, afterSending}
 use Rattle.rules.specs.declared.Key.{Key}
 use Rattle.rules.specs.declared.Place.{Place}
@@ -30,16 +32,16 @@ use Rattle.rules.specs.declared.Part.the-variants.{OfParameter, OfStore}
 use Rattle.rules.specs.declared.Decision.{Decision}
 use Rattle.rules.specs.declared.Decision.the-variants.{Refused, Saved, Delivered, Lost}
 use Rattle.rules.proofs.Places.{IsFirst, place-is}
-use Rattle.rules.proofs.Answers.{segment-by}
+use Rattle.rules.proofs.Arrival.{arrival-by}
 use Rattle.host_numbers.specs.Crossing.{cDecisionOf, decisionOf, taken}
 use Rattle.host.specs.declared.CReceived.{CReceived}
-use Rattle.host.specs.Promises.{HostSegment, HostDelivery}
+use Rattle.host.specs.Promises.{HostArrival, HostDelivery}
 use Rattle.demands.specs.Machine.{Typed}
 use Rattle.demands.specs.Seen.{Seen, seenOf}
 use Rattle.demands.specs.Exactly.{ByRules}
 use Rattle.demands.specs.Demanded.{Demanded, Begun}
 use Rattle.demands.proofs.Demanded.{demanded, begun}
-use Rattle.demanded.specs.Demanded.{seenOpening, seenClock, seenRelease, leaving, DemandedOpening, DemandedSegment, DemandedClock, DemandedRelease, DemandedSending, DemandedC}
+use Rattle.demanded.specs.Demanded.{seenOpening, seenClock, seenRelease, leaving, DemandedOpening, DemandedArrival, DemandedClock, DemandedRelease, DemandedSending, DemandedC}
 use Rattle.demanded.specs.declared.Handed.{Handed}
 
 pub of-opening : (registry : List ℕ) (timer time : ℕ) (r : Opened) (m′ : List ℕ) → time < 2 ^ 32 → OfOpening registry timer time r m′ → DemandedOpening registry timer time r m′
@@ -104,43 +106,46 @@ line-back Next t store k f octets found p vacant e = refl
 
 -- an answer for C, with a decision for its numbers
 abbrev decided : CReceived → Decision → Received
-decided r d = record { table = r .table; decision = d; position = r .position; refusal = r .refusal; records = r .records }
+decided r d = record { table = r .table; decision = d; position = r .position; refusal = r .refusal; records = r .records; timeouts = r .timeouts }
 
-module _ (t : Table) (m store report : List ℕ) (association : ℕ) (s : List ℕ) where
-  -- what the rule makes of a segment
+module _ (t : Table) (m store report : List ℕ) (time association : ℕ) (s : List ℕ) where
+  -- what the rule makes of an arrival
   abbrev ruled : Counted Reception
-  ruled = segmentWith t m store report association s
+  ruled = arrival t m store report time association s
 
   abbrev decision : Decision
   decision = ruled .call .answer .decision
 
   -- its decision crosses as it is
   decision-back : Typed t → decisionOf (cDecisionOf decision) ≡ decision
+  unfolding sweep
   decision-back typed =
-      segment-by t m store report association s (λ (o : Reception). decisionOf (cDecisionOf (o .answer .decision)) ≡ o .answer .decision)
-      (λ _. line-back _ t store _ _ _ _ _ _ (place-back (keyOf association s (fieldsOf (t .registry) s)) (t .places) (typed .count)))
-      (λ _. refl)
+      let after : Table = tableAfter (clockWork t m report time) in
+      let count : length (after .places) ≡ placeCount = simp length-map (typed .count) in
+      arrival-by t m store report time association s (λ (o : Counted Reception). decisionOf (cDecisionOf (o .call .answer .decision)) ≡ o .call .answer .decision)
+      (λ e. refl) (λ e f. refl) (λ e f g. refl)
+      (λ e f g. line-back _ after store _ _ _ _ _ _ (place-back (keyOf association s (fieldsOf (t .registry) s)) (after .places) count))
 
-  abbrev seenSegment : Received → List ℕ → List ℕ → List ℕ → List ℕ → Seen
-  seenSegment r m′ store′ report′ handed = seenOf (stateOf t m store) (toArrive association s report) (leaving r m′ store′ report′) handed
+  abbrev seenArrival : Received → List ℕ → List ℕ → List ℕ → List ℕ → Seen
+  seenArrival r m′ store′ report′ handed = seenOf (stateOf t m store) (toArrive time association s report) (leaving r m′ store′ report′) handed
 
-  ruled-demanded : association < 2 ^ 16
-      → Demanded (seenSegment (ruled .call .answer) (ruled .summary) (ruled .call .store) (ruled .call .report) (delivery decision s (ruled .call .store)))
+  ruled-demanded : time < 2 ^ 32 → association < 2 ^ 16
+      → Demanded (seenArrival (ruled .call .answer) (ruled .summary) (ruled .call .store) (ruled .call .report) (delivery decision s (ruled .call .store)))
   unfolding step
-  ruled-demanded small = demanded (stateOf t m store) (toArrive association s report) small refl
+  ruled-demanded early small = demanded (stateOf t m store) (toArrive time association s report) (early, small) refl
 
-  pub of-segment : (r : Received) (m′ store′ report′ : List ℕ) → association < 2 ^ 16 → OfSegment t m store report association s r m′ store′ report′
-      → DemandedSegment t m store report association s r m′ store′ report′
-  of-segment r m′ store′ report′ small k handed d =
+  pub of-arrival : (r : Received) (m′ store′ report′ : List ℕ) → time < 2 ^ 32 → association < 2 ^ 16 → OfArrival t m store report time association s r m′ store′ report′
+      → DemandedArrival t m store report time association s r m′ store′ report′
+  of-arrival r m′ store′ report′ early small k handed d =
       let h : handed ≡ delivery decision s (ruled .call .store) = d .handed ∙ (λ i. delivery (k .answered i .decision) s (k .stored i)) in
-      let seen : _ ≡ _ = λ i. seenSegment (k .answered i) (k .summed i) (k .stored i) (k .reported i) (h i) in
-      subst Demanded (sym seen) (ruled-demanded small)
+      let seen : _ ≡ _ = λ i. seenArrival (k .answered i) (k .summed i) (k .stored i) (k .reported i) (h i) in
+      subst Demanded (sym seen) (ruled-demanded early small)
 
-  pub of-c-segment : (r : Handed) (m′ store′ report′ : List ℕ) → Typed t → association < 2 ^ 16 → HostSegment t m store report association s (r .received) m′ store′ report′
-      → HostDelivery (r .received .decision) s store′ (r .part) → DemandedC t m store report association s r m′ store′ report′
-  of-c-segment r m′ store′ report′ typed small k d =
+  pub of-c-arrival : (r : Handed) (m′ store′ report′ : List ℕ) → Typed t → time < 2 ^ 32 → association < 2 ^ 16 → HostArrival t m store report time association s (r .received) m′ store′ report′
+      → HostDelivery (r .received .decision) s store′ (r .part) → DemandedC t m store report time association s r m′ store′ report′
+  of-c-arrival r m′ store′ report′ typed early small k d =
       let same : decisionOf (r .received .decision) ≡ decision = (λ i. decisionOf (k .answered i .decision)) ∙ decision-back typed in
       let h : taken (r .part) s store′ ≡ delivery decision s (ruled .call .store)
       = d .delivered ∙ (λ i. delivery (decisionOf (k .answered i .decision)) s (k .stored i)) ∙ handed-back decision s (ruled .call .store) in
-      let seen : _ ≡ _ = λ i. seenSegment (decided (k .answered i) (same i)) (k .summed i) (k .stored i) (k .reported i) (h i) in
-      subst Demanded (sym seen) (ruled-demanded small)
+      let seen : _ ≡ _ = λ i. seenArrival (decided (k .answered i) (same i)) (k .summed i) (k .stored i) (k .reported i) (h i) in
+      subst Demanded (sym seen) (ruled-demanded early small)

@@ -3,7 +3,7 @@ use Prim.Native.Nat.{ℕ}
 use mathlib.Core.List.{List, []}
 use Rattle.rules.specs.Promises.{OfDelivery}
 use Rattle.rules.specs.Summary.{counting, emptySummary}
-use Rattle.rules.specs.Calls.{State, stateOf, toOpen, toArrive, toTick, toRelease, toSend, Outcome, afterOpening, afterSegment, afterSweep, afterSending}
+use Rattle.rules.specs.Calls.{State, stateOf, toOpen, toArrive, toTick, toRelease, toSend, Outcome, afterOpening, afterArrival, afterSweep, afterSending}
 use Rattle.rules.specs.declared.Table.{Table}
 use Rattle.rules.specs.declared.Request.{Request}
 use Rattle.rules.specs.declared.Opened.{Opened}
@@ -26,15 +26,15 @@ seenOpening st registry timer clock r m′ =
 abbrev pub DemandedOpening : List ℕ → ℕ → ℕ → Opened → List ℕ → Type 0
 DemandedOpening registry timer clock r m′ = (st : State) → Begun (seenOpening st registry timer clock r m′)
 
--- what a segment leaves; the records that it made are read from its report
+-- what an arrival leaves; the records that it made are read from its report
 abbrev pub leaving : Received → List ℕ → List ℕ → List ℕ → Outcome
-leaving r m′ store′ report′ = afterSegment (counting m′ (record { answer = r; store = store′; report = report′; made = [] }))
+leaving r m′ store′ report′ = afterArrival (counting m′ (record { answer = r; store = store′; report = report′; made = [] }))
 
--- a segment, with what the delivery asked for with its answer hands over
-abbrev pub DemandedSegment : Table → List ℕ → List ℕ → List ℕ → ℕ → List ℕ → Received → List ℕ → List ℕ → List ℕ → Type 0
-DemandedSegment t m store report association s r m′ store′ report′ =
+-- an arrival, with what the delivery asked for with its answer hands over
+abbrev pub DemandedArrival : Table → List ℕ → List ℕ → List ℕ → ℕ → ℕ → List ℕ → Received → List ℕ → List ℕ → List ℕ → Type 0
+DemandedArrival t m store report time association s r m′ store′ report′ =
     (handed : List ℕ) → OfDelivery (r .decision) s store′ handed
-    → Demanded (seenOf (stateOf t m store) (toArrive association s report) (leaving r m′ store′ report′) handed)
+    → Demanded (seenOf (stateOf t m store) (toArrive time association s report) (leaving r m′ store′ report′) handed)
 
 -- the clock and a release, whatever the store is
 abbrev pub sweeping : List ℕ → Swept → List ℕ → List ℕ → Outcome
@@ -57,13 +57,13 @@ abbrev pub DemandedSending : Table → Request → List ℕ → List ℕ → Lis
 DemandedSending t q o d whole area r area′ =
     (m store : List ℕ) → Demanded (seenOf (stateOf t m store) (toSend q o d whole area) (afterSending (stateOf t m store) (record { answer = r; area = area′ })) [])
 
--- for C: a segment's answer as it crossed, and the octets of the part that the host takes with it
+-- for C: an arrival's answer as it crossed, and the octets of the part that the host takes with it
 abbrev pub ofC : CReceived → List ℕ → List ℕ → List ℕ → Outcome
-ofC r m′ store′ report′ = leaving (record { table = r .table; decision = decisionOf (r .decision); position = r .position; refusal = r .refusal; records = r .records }) m′ store′ report′
+ofC r m′ store′ report′ = leaving (record { table = r .table; decision = decisionOf (r .decision); position = r .position; refusal = r .refusal; records = r .records; timeouts = r .timeouts }) m′ store′ report′
 
-abbrev pub DemandedC : Table → List ℕ → List ℕ → List ℕ → ℕ → List ℕ → Handed → List ℕ → List ℕ → List ℕ → Type 0
-DemandedC t m store report association s r m′ store′ report′ =
-    Demanded (seenOf (stateOf t m store) (toArrive association s report) (ofC (r .received) m′ store′ report′) (taken (r .part) s store′))
+abbrev pub DemandedC : Table → List ℕ → List ℕ → List ℕ → ℕ → ℕ → List ℕ → Handed → List ℕ → List ℕ → List ℕ → Type 0
+DemandedC t m store report time association s r m′ store′ report′ =
+    Demanded (seenOf (stateOf t m store) (toArrive time association s report) (ofC (r .received) m′ store′ report′) (taken (r .part) s store′))
 
 -- two calls in a row, with nothing asked of the history: the second is met after the first
 abbrev pub OfBoth : List ℕ → ℕ → ℕ → List ℕ → ℕ → Both → List ℕ → List ℕ → Type 0

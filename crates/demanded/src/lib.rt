@@ -10,9 +10,9 @@ use rules::Sent;
 use rules::Swept;
 use rules::Table;
 ghost use Rattle.rules.specs.Promises.{OfDelivery};
-ghost use Rattle.demanded.specs.Demanded.{DemandedOpening, DemandedSegment, DemandedClock, DemandedRelease, DemandedSending, DemandedC, OfBoth};
+ghost use Rattle.demanded.specs.Demanded.{DemandedOpening, DemandedArrival, DemandedClock, DemandedRelease, DemandedSending, DemandedC, OfBoth};
 
-// A segment's answer for C, and the part that the host takes with it.
+// An arrival's answer for C, and the part that the host takes with it.
 pub struct Handed {
     pub received: CReceived,
     pub part: CPart,
@@ -31,17 +31,18 @@ pub fn opening(m: &mut [u64; rules::SUMMARY], registry: &[u8], timer: u32, clock
     opening::opening(m, registry, timer, clock)
 }
 
-pub fn segment(
+pub fn arrival(
     t: Table,
     m: &mut [u64; rules::SUMMARY],
     store: &mut [u8],
     report: &mut [u8],
+    time: u32,
     association: u16,
     s: &[u8],
 ) -> Received
-    ensures { λ r. ⌜ DemandedSegment t (now (m .entry)) (now (store .entry)) (now (report .entry)) association (now (s .entry)) r (now (m .exit)) (now (store .exit)) (now (report .exit)) ⌝ }
+    ensures { λ r. ⌜ DemandedArrival t (now (m .entry)) (now (store .entry)) (now (report .entry)) time association (now (s .entry)) r (now (m .exit)) (now (store .exit)) (now (report .exit)) ⌝ }
 {
-    receiver::segment(t, m, store, report, association, s)
+    receiver::arrival(t, m, store, report, time, association, s)
 }
 
 pub fn delivery<'a>(decision: Decision, s: &'a [u8], store: &'a [u8]) -> &'a [u8]
@@ -85,30 +86,31 @@ pub fn sending(
 pub fn c_opening(m: &mut [u64; rules::SUMMARY], registry: &[u8], timer: u32, clock: u32) -> Opened
     ensures { λ r. ⌜ DemandedOpening (now (registry .entry)) timer clock r (now (m .exit)) ⌝ }
 {
-    host::egrynnol_3_opening(m, registry, timer, clock)
+    host::egrynnol_4_opening(m, registry, timer, clock)
 }
 
-// A segment, and the delivery asked for with its answer.
-pub fn c_segment(
+// An arrival, and the delivery asked for with its answer.
+pub fn c_arrival(
     t: Table,
     m: &mut [u64; rules::SUMMARY],
     store: &mut [u8],
     report: &mut [u8],
+    time: u32,
     association: u16,
     s: &[u8],
 ) -> Handed
-    ensures { λ r. ⌜ DemandedC t (now (m .entry)) (now (store .entry)) (now (report .entry)) association (now (s .entry)) r (now (m .exit)) (now (store .exit)) (now (report .exit)) ⌝ }
+    ensures { λ r. ⌜ DemandedC t (now (m .entry)) (now (store .entry)) (now (report .entry)) time association (now (s .entry)) r (now (m .exit)) (now (store .exit)) (now (report .exit)) ⌝ }
 {
-    let received = host::egrynnol_3_segment(t, m, store, report, association, s);
+    let received = host::egrynnol_4_arrival(t, m, store, report, time, association, s);
     let decision = received.decision;
-    let part = host::egrynnol_3_delivery(decision, s, store);
+    let part = host::egrynnol_4_delivery(decision, s, store);
     Handed { received, part }
 }
 
 pub fn c_clock(t: Table, m: &mut [u64; rules::SUMMARY], report: &mut [u8], time: u32) -> Swept
     ensures { λ r. ⌜ DemandedClock t (now (m .entry)) (now (report .entry)) time r (now (m .exit)) (now (report .exit)) ⌝ }
 {
-    host::egrynnol_3_clock(t, m, report, time)
+    host::egrynnol_4_clock(t, m, report, time)
 }
 
 pub fn c_release(
@@ -119,7 +121,7 @@ pub fn c_release(
 ) -> Swept
     ensures { λ r. ⌜ DemandedRelease t (now (m .entry)) (now (report .entry)) association r (now (m .exit)) (now (report .exit)) ⌝ }
 {
-    host::egrynnol_3_release(t, m, report, association)
+    host::egrynnol_4_release(t, m, report, association)
 }
 
 pub fn c_sending(
@@ -132,7 +134,7 @@ pub fn c_sending(
 ) -> Sent
     ensures { λ r. ⌜ DemandedSending t q (now (origin .entry)) (now (destination .entry)) (now (whole .entry)) (now (area .entry)) r (now (area .exit)) ⌝ }
 {
-    host::egrynnol_3_sending(t, q, origin, destination, whole, area)
+    host::egrynnol_4_sending(t, q, origin, destination, whole, area)
 }
 
 // THEY COMPOSE: what one leaves is what the next asks for, and nothing is asked of the history.

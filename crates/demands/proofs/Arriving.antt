@@ -6,18 +6,18 @@ use mathlib.Core.List.{List, [], _∷_, _++_, append-nil}
 use native.Mathlib.Omega.{arith}
 use borrow.Author.Tests.{le-ltb, lt-ltb, le-leb, eq-eqb}
 use lib.Dec.{eqb}
-use lib.ListN.{length, getD, set, take, drop, replicate, length-set, length-append, length-replicate}
+use lib.ListN.{length, getD, set, take, drop, length-set, length-append}
 use lib.Seq.{getD-set-same, getD-set-other, take-add, drop-drop}
 use Rattle.octets.specs.Splice.{splice}
 use Rattle.octets.proofs.Splice.{splice-back, splice-below}
 use Rattle.rules.specs.General.{if_then_else_}
-use Rattle.rules.specs.Numbers.{storeLeast, placeStart, addressMost}
+use Rattle.rules.specs.Numbers.{storeLeast, placeStart}
 use Rattle.rules.specs.Refusals.{Check, accepted}
 use Rattle.rules.specs.Layout.{isUnsegmented, fieldsOf, readingChecks}
 use Rattle.rules.specs.Records.{recordLength, addressOf, FilledKey, recordOctets, recordsOctets}
 use Rattle.rules.specs.Places.{noPlace, holds, placeOf, lowestFree, isAt, placeAt}
 use Rattle.rules.specs.Soundness.{sound}
-use Rattle.rules.specs.Receiving.{keyOf, lineOf, lineAt, isStart, effectOf, saveAt, receptionOf, receivedAt, Reception, lentChecks, segmentChecks}
+use Rattle.rules.specs.Receiving.{keyOf, lineOf, lineAt, isStart, effectOf, saveAt, receptionOf, receivedAt, Reception, lentChecks, ownChecks, segmentChecks}
 use Rattle.rules.specs.Summary.{summarySound, summaryChecks, rowChecks, totalChecks, segmentSums, segmentChecksWith, segmentWith}
 use Rattle.rules.specs.Delivery.{partOfPlace}
 use Rattle.rules.specs.declared.Key.{Key}
@@ -31,7 +31,7 @@ use Rattle.rules.specs.declared.Found.the-variants.{At}
 use Rattle.rules.specs.declared.Line.{Line}
 use Rattle.rules.specs.declared.Line.the-variants.{Unsegmented, Restart, Start, Final, Next}
 use Rattle.rules.proofs.Places.{IsFirst}
-use Rattle.rules.proofs.Refusals.{accepted-append}
+use Rattle.rules.proofs.Refusals.{accepted-append, both-accepted}
 use Rattle.rules.proofs.Records.{record-length}
 use Rattle.rules.proofs.ReadBack.{ReadsBack}
 use Rattle.demands.proofs.Spared.{Kept, segment-is}
@@ -93,12 +93,11 @@ module _ (t : Table) (store report : List ℕ) (association : ℕ) (s : List ℕ
       → accepted (segmentChecks t store report association s) ≡ true
   unfolding segmentChecks
   accepts e =
-      let front : List Check = lentChecks (sound t) (length store) (length report) in
+      let front : List Check = lentChecks recordLength (sound t) (length store) (length report) in
       let one : accepted front ≡ true = rw (good, le-ltb (length store) storeLeast long, le-ltb (length report) recordLength ample) in
-      let two : accepted (front ++ readingChecks (t .registry) s) ≡ true = accepted-append front (readingChecks (t .registry) s) ∙ rw (one, read .accepted) in
       let same : at (keyOf association s (fieldsOf (t .registry) s)) (fieldsOf (t .registry) s .heading) (drop (fieldsOf (t .registry) s .information) s)
       ≡ at (keyFor association g o d) g info = λ i. at (key-is i) (read .heading i) (read .information i) in
-      accepted-append (front ++ readingChecks (t .registry) s) _ ∙ rw (two, same, e)
+      both-accepted front (ownChecks t association s) one (accepted-append (readingChecks (t .registry) s) _ ∙ rw (read .accepted, same, e))
 
   -- neither the summary's soundness nor its room refuses it
   module _ (m : List ℕ) (sums : summarySound m (t .places) ≡ true)

@@ -33,7 +33,7 @@ use Rattle.rules.proofs.Arrived.{arrived as arrived-good}
 use Rattle.rules.proofs.Answers.{opened-by, segment-accepted}
 use Rattle.demands.specs.Machine.{ours, isOpening, All, InRange}
 use Rattle.demands.specs.Seen.{Seen, seenBy}
-use Rattle.demands.specs.History.{Segment, Taken, Cover, Told, joined, filed, coversOf, keyIn, segmentIn, lineIn, isRestart, arrived, coversIn, counted, deedsOf, after}
+use Rattle.demands.specs.History.{Segment, Taken, Cover, Told, joined, filed, coversOf, keyIn, segmentIn, lineIn, isRestart, arrived, coversIn, deedsOf, after}
 use Rattle.demands.specs.Demand3.{endingOf, IsLost, Fair}
 use Rattle.demands.specs.Totals.{segmentsTaken, octetsTaken, isBilled, segmentsCovered, octetsCovered, isHeld, segmentsHeld, octetsHeld, associationsFrom, Balanced, Balance}
 use Rattle.demands.proofs.ByLine.{line-cases}
@@ -287,27 +287,30 @@ record Balancing (st : State) (h : Told) : Type 0 where
   counting : Counting st h
   evens : Evens (st .table .places) h
 
+abbrev EvensIn : State → Told → Type 0
+EvensIn st h = Evens (st .table .places) h
+
+takes : Took EvensIn
+takes st h inv sums evens x e ruled fair w b =
+    let s : List ℕ = x .parameter in
+    let f : Fields = fieldsOf (st .table .registry) s in
+    let k : Key = keyIn h (x .association) s in
+    let rs : List Record = effect st h inv x .records in
+    let good = arrived-good (st .table) (st .store) (x .report) (x .association) s (segment-accepted (st .table) (st .summary) (st .store) (x .report) (x .association) s e .0 .own) in
+    let even = segment-even w b (st .table) (st .store) (keyOf (x .association) s f) f (informationOf s f) (vacant-left _ _ (good .vacant)) in
+    let size : length (segmentIn h s .octets) ≡ length (informationOf s f) = rw (inv .agrees .registry) in
+    let one = taken-one w b (h .taken) (record { key = k; segment = segmentIn h s })
+    ∙ ap (λ (n : ℕ). takenBy w b (h .taken) + (if eqb (x .association) b then pick w 1 n else 0)) size in
+    let kinds = proper-kinds k rs (rw (ruled .ends) (line-proper k (lineIn h (x .association) s))) in
+    omega (arith, evens w b, covers-in w b (h .covered) (isRestart (lineIn h (x .association) s)) (h .uncovered) k (segmentIn h s) rs fair kinds)
+
+sweeps : Swept EvensIn
+sweeps st h inv sums evens test opens cause clock time ticks fair w b =
+    let rs : List Record = lossesBy test cause (st .table .places) in
+    let kinds = lost-kinds cause rs (losses-lost test cause (st .table .places)) in
+    rw append-nil (omega (arith, evens w b, swept-even w b test opens cause (st .table .places), covers-all w b (h .covered) (h .uncovered) rs fair kinds))
+
 module _ (st : State) (h : Told) (i : Balancing st h) where
-  takes : Took st h (i .counting .inv) (λ (st : State) (h : Told). Evens (st .table .places) h)
-  takes x e ruled fair w b =
-      let s : List ℕ = x .parameter in
-      let f : Fields = fieldsOf (st .table .registry) s in
-      let k : Key = keyIn (counted h) (x .association) s in
-      let rs : List Record = effect st h (i .counting .inv) x .records in
-      let good = arrived-good (st .table) (st .store) (x .report) (x .association) s (segment-accepted (st .table) (st .summary) (st .store) (x .report) (x .association) s e .0 .own) in
-      let even = segment-even w b (st .table) (st .store) (keyOf (x .association) s f) f (informationOf s f) (vacant-left _ _ (good .vacant)) in
-      let size : length (segmentIn (counted h) s .octets) ≡ length (informationOf s f) = rw (i .counting .inv .agrees .registry) in
-      let one = taken-one w b (h .taken) (record { key = k; segment = segmentIn (counted h) s })
-      ∙ ap (λ (n : ℕ). takenBy w b (h .taken) + (if eqb (x .association) b then pick w 1 n else 0)) size in
-      let kinds = proper-kinds k rs (rw (ruled .ends) (line-proper k (lineIn (counted h) (x .association) s))) in
-      omega (arith, i .evens w b, covers-in w b (h .covered) (isRestart (lineIn (counted h) (x .association) s)) (h .uncovered) k (segmentIn (counted h) s) rs fair kinds)
-
-  sweeps : Swept st h (i .counting .inv) (λ (st : State) (h : Told). Evens (st .table .places) h)
-  sweeps test opens cause clock time ticks fair w b =
-      let rs : List Record = lossesBy test cause (st .table .places) in
-      let kinds = lost-kinds cause rs (losses-lost test cause (st .table .places)) in
-      rw append-nil (omega (arith, i .evens w b, swept-even w b test opens cause (st .table .places), covers-all w b (h .covered) (h .uncovered) rs fair kinds))
-
   -- a used row is an association's
   balanced : (row : ℕ) → row < 64 → isUsed (st .summary) row ≡ true → Balanced st row
   balanced row h′ u =
@@ -337,7 +340,7 @@ called : (st : State) (h : Told) → Balancing st h → (c : Call) → InRange c
 called st h i c r o =
     record {
       counting = counting-call st h (i .counting) c r o;
-      evens = call-by st h (i .counting .inv) (λ (st : State) (h : Told). Evens (st .table .places) h) (takes st h i) (sweeps st h i) (i .evens) c r o;
+      evens = call-by EvensIn takes sweeps (λ st h e. e) st h (i .counting .inv) (i .counting .sound) (i .evens) c r o;
     }
 
 pub balance : Balance ours

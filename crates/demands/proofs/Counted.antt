@@ -1,20 +1,17 @@
 -- Every call hands a sound summary back sound.
 use Prim.Native.Nat.{ℕ, _<_, _^_}
-use mathlib.Core.Path.{_≡_, refl, sym, _∙_}
-use mathlib.Core.Bool.{Bool, true, false, not, _||_, and-eq-true-iff, true≢false}
-use mathlib.Core.List.{List, [], _∷_, map}
-use native.Mathlib.Omega.{arith}
-use lib.ListN.{length, getD, set, replicate, length-replicate}
-use Rattle.rules.specs.General.{if_then_else_, every}
+use mathlib.Core.Path.{_≡_, refl, _∙_}
+use mathlib.Core.Bool.{Bool, true, false, not, _||_, true≢false}
+use mathlib.Core.List.{List}
+use lib.ListN.{length, replicate}
+use Rattle.rules.specs.General.{every}
 use Rattle.rules.specs.Numbers.{placeCount}
 use Rattle.rules.specs.Layout.{fieldsOf}
-use Rattle.rules.specs.Places.{freePlace, isOpen, isAt, putPlace, placeOf, placeAt, lowestFree}
+use Rattle.rules.specs.Places.{freePlace, isOpen, isAt, putPlace}
 use Rattle.rules.specs.Receiving.{informationOf, begun, longer, effectOf, receivedAt, Reception}
-use Rattle.rules.specs.Sweep.{Sweeping, sweep, freedBy}
-use Rattle.rules.specs.Opening.{unopened, emptyTable}
+use Rattle.rules.specs.Sweep.{Sweeping, sweep, lossesBy, isDue}
 use Rattle.rules.specs.Summary.{Counted, rowOf, rowFor, isSeated, summarySound, took, billed, segmentSums, sweepSums, rowCount, emptySummary}
-use Rattle.rules.specs.Sweep.{clockSweep, releaseSweep}
-use Rattle.rules.specs.Calls.{State, Call, Opens, Arrives, Ticks, Releases, Sends, Opening, step}
+use Rattle.rules.specs.Calls.{State, Arrival, Call, Opens, Arrives, Ticks, Releases, Sends, Opening, step}
 use Rattle.rules.specs.declared.Key.{Key}
 use Rattle.rules.specs.declared.Place.{Place}
 use Rattle.rules.specs.declared.Table.{Table}
@@ -26,10 +23,11 @@ use Rattle.rules.specs.declared.Line.the-variants.{Unsegmented, Broken, Restart
 use Rattle.rules.specs.declared.Record.{Record}
 use Rattle.rules.specs.declared.Opened.{Opened}
 use Rattle.rules.proofs.Apart.{every-set}
-use Rattle.rules.proofs.Answers.{opened-by, segment-with, segment-accepted, clock-with, clock-accepted, release-with, release-accepted}
+use Rattle.rules.proofs.Answers.{opened-by, segment-with, segment-accepted, clock-with, release-with}
 use Rattle.rules.proofs.Fitting.{length-took, length-billed}
-use Rattle.rules.proofs.Seats.{took-sound, billed-sound, billed-keeps, sound-beside, seats-of}
-use Rattle.demands.specs.Machine.{isOpening, InRange, SoundSummary}
+use Rattle.rules.proofs.Seats.{took-sound, billed-sound, billed-keeps, sound-beside, seats-of, swept-seats}
+use Rattle.demands.specs.Machine.{clockedBy, isOpening, InRange, SoundSummary}
+use Rattle.demands.proofs.Parts.{segmented, arrival-state}
 
 -- a place that is put has its row, or is free
 module _ (m : List ℕ) where
@@ -59,16 +57,6 @@ module _ (m : List ℕ) where
       put-seats (t .places) vacant _ (own-seated (begun (t .clock) key (f .heading) (length octets)) row) h
   effect-seats Final t store key f octets place p vacant row h = put-seats (t .places) place freePlace free-seated h
   effect-seats Next t store key f octets place p vacant row h = put-seats (t .places) place _ (own-seated (longer p key (f .heading) (length octets)) row) h
-
-  freed-seats : (test : Place → Bool) (ps : List Place) → every (isSeated m) ps ≡ true → every (isSeated m) (map (freedBy test) ps) ≡ true
-  freed-seats test [] h = refl
-  freed-seats test (p ∷ ps) h =
-      let both = and-eq-true-iff (isSeated m p) (every (isSeated m) ps) .0 h in
-      rw (go (test p) (both .0), freed-seats test ps (both .1))
-    where
-      go : (b : Bool) → isSeated m p ≡ true → isSeated m (if b then freePlace else p) ≡ true
-      go true e = refl
-      go false e = e
 
 -- an empty one beside a table with nothing open
 empty-sound : (ps : List Place) → every (isSeated emptySummary) ps ≡ true → summarySound emptySummary ps ≡ true
@@ -115,20 +103,23 @@ swept-counted : (st : State) (test : Place → Bool) (cause time : ℕ) (report 
     (length (sweepSums (st .summary) o) ≡ 512) × (summarySound (sweepSums (st .summary) o) (o .answer .table .places) ≡ true)
 unfolding sweep
 swept-counted st test cause time report s =
-    let o : Sweeping = sweep test cause time (st .table) report in
-    let sums = billed-sound (st .summary) (o .made) (st .table .places) (s .sound) in (
-      length-billed (st .summary) (o .made) ∙ s .size,
-      sound-beside (sweepSums (st .summary) o) (st .table .places) _ sums (freed-seats (sweepSums (st .summary) o) test (st .table .places) (seats-of (sweepSums (st .summary) o) (st .table .places) sums)),
-    )
+    let made : List Record = lossesBy test cause (st .table .places) in
+    (length-billed (st .summary) made ∙ s .size, swept-seats (st .summary) made test (st .table .places) (s .sound))
 
-pub summary-kept : (st : State) (c : Call) → isOpening c ≡ false → InRange c → SoundSummary st → SoundSummary (step st c .state)
-unfolding step
-summary-kept st (Opens x) o r s = absurd (true≢false o)
-summary-kept st (Arrives x) o r s =
+pub clocked-counted : (st : State) (x : Arrival) → SoundSummary st → SoundSummary (clockedBy st x)
+clocked-counted st x s = let k = swept-counted st (isDue (x .time) (st .table .timer)) 6 (x .time) (x .report) s in record { size = k .0; sound = k .1 }
+
+segmented-counted : (st : State) (x : Arrival) → x .association < 2 ^ 16 → SoundSummary st → SoundSummary (segmented st x .state)
+segmented-counted st x r s =
     segment-with (st .table) (st .summary) (st .store) (x .report) (x .association) (x .parameter)
     (λ (o : Counted Reception). SoundSummary (record { table = o .call .answer .table; summary = o .summary; store = o .call .store }))
     (λ e. segment-counted st (x .report) (x .association) (x .parameter) r (segment-accepted (st .table) (st .summary) (st .store) (x .report) (x .association) (x .parameter) e .1 .row) s)
     (λ e. record { size = s .size; sound = s .sound })
+
+pub summary-kept : (st : State) (c : Call) → isOpening c ≡ false → InRange c → SoundSummary st → SoundSummary (step st c .state)
+unfolding step
+summary-kept st (Opens x) o r s = absurd (true≢false o)
+summary-kept st (Arrives x) o r s = arrival-state st x SoundSummary s (λ e. clocked-counted st x s) (λ e f. segmented-counted (clockedBy st x) x (r .1) (clocked-counted st x s))
 summary-kept st (Ticks x) o r s =
     clock-with (st .table) (st .summary) (x .report) (x .time)
     (λ (o : Counted Sweeping). SoundSummary (record { table = o .call .answer .table; summary = o .summary; store = st .store }))

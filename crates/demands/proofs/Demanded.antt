@@ -33,7 +33,7 @@ met st h m c r o =
     record {
       accounted = done;
       timed = timed-call st h inv t c r o (done .ruled);
-      released = released-call st h inv c o (done .ruled);
+      released = released-call st h inv c r o (done .ruled);
       not1 = λ e z. passes-1 st c o (m .good e) (m .summary .sound) (sym (number st c) ∙ z);
       on =
           matched (step st c .state) (after h (seenBy ours st c)) (inv-call st h inv c r o) (timely-call st h inv t c r o)

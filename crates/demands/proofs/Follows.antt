@@ -29,7 +29,7 @@ use Rattle.demands.specs.Seen.{Seen, runOf}
 use Rattle.demands.specs.History.{Segment, Taken, Told, Cover, Deed, Begins, Takes, Passes, Ends, joined, isNone, lastRemaining, remainingOf, filed, settled, coversOf, keyIn, segmentIn, lineIn, isRestart, arrived, coversIn, leftIn, coverOf, did, didAll, coversBy, recordsIn, recordsOf, recordsBy, EachDeed, counted, deedsOf, after, covers, EachIn, silence, Along}
 use Rattle.demands.specs.Demand3.{Ending, ended, endingOf, endingsOf, IsLost, Ruled, Counted, Fair, owed, Accounted, Demand3}
 use Rattle.demands.specs.Follows.{Down, CountsDown, InOrder, Orderly, Billed, takenOf, coveredOf, Rising, Complete, Unforgetting}
-use Rattle.demands.proofs.Running.{either}
+use Rattle.demands.proofs.Running.{either, arrival-either}
 use Rattle.demands.proofs.Holding.{last-more, filed-same, filed-again}
 use Rattle.demands.proofs.Accepting.{alone-reference}
 
@@ -146,7 +146,8 @@ after-numbered h x n = go (x .call)
 
     go : (c : Call) → Numbered (didAll (counted h) (deedsOf c (x .answer)) .number) (didAll (counted h) (deedsOf c (x .answer)) .taken)
     go (Opens y) = record { rising = tt; last = omega arith }
-    go (Arrives y) = either By (eqb (x .answer .refusal) 0) _ (λ e. one _ refl) none
+    go (Arrives y) =
+        arrival-either By y (x .answer) (λ e. rw append-nil (one _ refl)) (λ e f. still-numbered (h .number) (h .taken) n) none
     go (Ticks y) = either By (eqb (x .answer .refusal) 0) _ (λ e. still-numbered (h .number) (h .taken) n) none
     go (Releases y) = either By (eqb (x .answer .refusal) 0) _ (λ e. still-numbered (h .number) (h .taken) n) none
     go (Sends y) = none

@@ -54,7 +54,7 @@ exchanges = Exchanges.exchanges
 pub demand-3 : Demand3 ours
 demand-3 = Kept.demand-3
 
--- the timer: a sequence is lost with cause 6 exactly when its true age reaches T at a clock call
+-- the timer: a sequence is lost with cause 6 exactly when its true age reaches T at a clock call or in an arrival
 pub timer : Timer ours
 timer = Timing.timer
 

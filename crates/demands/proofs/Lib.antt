@@ -1,4 +1,5 @@
 pub mod Index
+pub mod Parts
 pub mod Running
 pub mod Typed
 pub mod Refused
@@ -28,4 +29,3 @@ pub mod Rowed
 pub mod Doing
 pub mod Totalling
 pub mod Balancing
-pub mod Rejected

@@ -6,14 +6,19 @@ use mathlib.Core.List.{List, [], _∷_}
 use native.Mathlib.Omega.{arith}
 use Rattle.rules.specs.Refusals.{accepted}
 use Rattle.rules.specs.Layout.{octet, readingChecks}
+use Rattle.rules.specs.Receiving.{ownChecks}
+use Rattle.rules.specs.Sweep.{sweep}
+use Rattle.rules.specs.Summary.{rowChecks}
+use Rattle.rules.specs.Arrival.{partChecks}
 use Rattle.rules.specs.Calls.{State, Arrives, Arrival}
-use Rattle.rules.proofs.Answers.{segment-accepted}
-use Rattle.rules.proofs.Arrived.{arrived}
+use Rattle.rules.specs.declared.Table.{Table}
+use Rattle.rules.proofs.Refusals.{accepted-both}
 use Rattle.rules.proofs.Shortest.{shortest, equal-octets}
-use Rattle.demands.specs.Machine.{Machine, checksOf}
+use Rattle.demands.specs.Machine.{Machine, checksOf, clockedBy}
 use Rattle.demands.specs.Demand1.{Demand1}
 use Rattle.demands.specs.Exactly.{Octets}
 use Rattle.demands.specs.Follows.{OneForm}
+use Rattle.demands.proofs.Parts.{three-accepted}
 
 -- an octet of octets
 octet-small : (s : List ℕ) → Octets s → (i : ℕ) → octet s i < 256
@@ -30,9 +35,11 @@ module _ (m : Machine) (d : Demand1 m) (st : State) (x : Arrival) (good : m .ste
       go false e = absurd (d .every st (Arrives x) .refused e good)
 
   reading-accepted : accepted (readingChecks (st .table .registry) (x .parameter)) ≡ true
+  unfolding partChecks sweep
   reading-accepted =
-      let own = segment-accepted (st .table) (st .summary) (st .store) (x .report) (x .association) (x .parameter) all-accepted .0 .own in
-      arrived (st .table) (st .store) (x .report) (x .association) (x .parameter) own .reading
+      let t : Table = clockedBy st x .table in
+      let own = accepted-both (ownChecks t (x .association) (x .parameter)) (rowChecks (clockedBy st x .summary) (x .association)) (three-accepted st x all-accepted .1 .0) .0 in
+      accepted-both (readingChecks (t .registry) (x .parameter)) _ own .0
 
 pub one-form : (m : Machine) → Demand1 m → OneForm m
 one-form m d =

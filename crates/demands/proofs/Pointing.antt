@@ -1,82 +1,82 @@
 -- What a position tells, of any machine that meets demand 1: what reading's position tells.
 use Prim.Native.Nat.{ℕ, _+_, _≤_}
 use mathlib.Core.Path.{_≡_, refl, sym, ap, subst, _∙_}
-use mathlib.Core.Bool.{Bool, true, false, not, _||_, true≢false}
+use mathlib.Core.Bool.{Bool, true, false, _||_, true≢false}
 use mathlib.Core.List.{List, _++_, append-assoc}
 use native.Mathlib.Omega.{arith}
 use borrow.Author.Tests.{eqb-true}
 use lib.Dec.{eqb}
 use lib.ListN.{length, take}
 use Rattle.rules.specs.Numbers.{parameterMost}
-use Rattle.rules.specs.Refusals.{nowhere, Check, accepted, first, firstAt, fault, unplaced}
+use Rattle.rules.specs.Refusals.{Check, accepted, first, firstAt, fault, unplaced}
 use Rattle.rules.specs.Layout.{fieldsOf, readingChecks}
 use Rattle.rules.specs.Blame.{blames, Blamed, isSettled}
-use Rattle.rules.specs.Receiving.{keyOf, informationOf, lineAt, lentChecks, takingChecks, segmentChecks}
+use Rattle.rules.specs.Receiving.{keyOf, informationOf, lineAt, lentChecks, takingChecks}
 use Rattle.rules.specs.Soundness.{sound}
-use Rattle.rules.specs.Summary.{summaryChecks, rowChecks, totalChecks, segmentSums, segmentChecksWith}
+use Rattle.rules.specs.Sweep.{sweep, stepChecks}
+use Rattle.rules.specs.Summary.{summaryChecks, rowChecks, totalChecks}
+use Rattle.rules.specs.Arrival.{arrivalLeast, wholeChecks, partChecks, bothChecks, arrivalChecks}
 use Rattle.rules.specs.Calls.{State, Arrives, Arrival}
 use Rattle.rules.specs.declared.Fault.{Fault}
-use Rattle.rules.proofs.Refusals.{accepted-append, accepted-first, first-passed, first-met, first-least}
+use Rattle.rules.proofs.Refusals.{accepted-append, accepted-first, fault-passed, fault-met, first-each}
 use Rattle.rules.proofs.Blamed.{Guarded, guarded, guarded-append, unblamed, reading-blames}
 use Rattle.rules.proofs.Alike.{alike}
-use Rattle.demands.specs.Machine.{Machine, checksOf}
+use Rattle.demands.specs.Machine.{Machine, checksOf, clockOf, clockedBy}
 use Rattle.demands.specs.Demand1.{Demand1, faultIn}
 use Rattle.demands.specs.Follows.{isBefore, Pointing}
+use Rattle.demands.proofs.Parts.{bothOf}
 use Rattle.demands.proofs.Refused.{only-reading}
-
--- the fault of one list behind another
-fault-passed : (xs ys : List Check) → accepted xs ≡ true → fault (xs ++ ys) ≡ fault ys
-fault-passed xs ys e = λ i. record { number = first-passed (λ (c : Check). c .number) 0 xs ys e i; position = first-passed (λ (c : Check). c .position) nowhere xs ys e i }
-
-fault-met : (xs ys : List Check) → accepted xs ≡ false → fault (xs ++ ys) ≡ fault xs
-fault-met xs ys e = λ i. record { number = first-met (λ (c : Check). c .number) 0 xs ys e i; position = first-met (λ (c : Check). c .position) nowhere xs ys e i }
 
 module _ (st : State) (x : Arrival) where
   abbrev s : List ℕ
   s = x .parameter
 
-  -- a segment's checks: the state's and the areas', reading's, and the last
+  -- an arrival's checks: the whole's, reading's, and the last
   abbrev early : List Check
-  early = summaryChecks (st .summary) (st .table .places) ++ lentChecks (sound (st .table)) (length (st .store)) (length (x .report))
+  early =
+      summaryChecks (st .summary) (st .table .places)
+      ++ (lentChecks arrivalLeast (sound (st .table)) (length (st .store)) (length (x .report)) ++ (stepChecks (x .time) (st .table .clock) ++ totalChecks (st .summary) (clockOf st x .summary)))
 
   abbrev reads : List Check
   reads = readingChecks (st .table .registry) s
 
   abbrev taking : List Check
   taking =
-      takingChecks (lineAt (st .table) (keyOf (x .association) s (fieldsOf (st .table .registry) s)) (fieldsOf (st .table .registry) s .heading) (length (informationOf s (fieldsOf (st .table .registry) s))))
-      (st .table .places)
+      takingChecks (lineAt (clockedBy st x .table) (keyOf (x .association) s (fieldsOf (st .table .registry) s)) (fieldsOf (st .table .registry) s .heading) (length (informationOf s (fieldsOf (st .table .registry) s))))
+      (clockedBy st x .table .places)
 
   abbrev late : List Check
-  late = rowChecks (st .summary) (x .association) ++ totalChecks (st .summary) (segmentSums (st .table) (st .summary) (st .store) (x .report) (x .association) s)
+  late = rowChecks (clockOf st x .summary) (x .association) ++ bothOf st x
 
   abbrev whole : List Check
   whole = checksOf st (Arrives x)
 
   in-order : whole ≡ early ++ (reads ++ taking ++ late)
-  unfolding segmentChecksWith segmentChecks
-  in-order = refl
+  unfolding arrivalChecks wholeChecks partChecks sweep
+  in-order = ap (λ (cs : List Check). early ++ cs) (append-assoc (reads ++ taking) (rowChecks (clockOf st x .summary) (x .association)) (bothOf st x))
 
   -- a check that blames no octet
   no : (n : ℕ) → blames n ≡ false → (b : Bool) → b ≡ true → Blamed s (unplaced n)
   no n e b _ = unblamed s n e
 
   whole-blames : Blamed s (fault whole)
+  unfolding bothChecks
   whole-blames =
       let P : Fault → Type 0 = Blamed s in
       let last : Guarded P late = (no 21 refl _, λ _. (no 22 refl _, λ _. tt)) in
       let own = guarded-append P reads taking (reading-blames (st .table .registry) s) (λ _. (no 10 refl _, λ _. tt)) in
       let rest = guarded-append P (reads ++ taking) late own (λ _. last) in
-      rw in-order (guarded P (early ++ (reads ++ taking ++ late)) (no 1 refl _, λ _. (no 1 refl _, λ _. (no 2 refl _, λ _. (no 3 refl _, λ _. rest)))) (unblamed s 0 refl))
+      rw in-order (guarded P (early ++ (reads ++ taking ++ late)) (no 1 refl _, λ _. (no 1 refl _, λ _. (no 2 refl _, λ _. (no 3 refl _, λ _. (no 13 refl _, λ _. (no 22 refl _, λ _. rest)))))) (unblamed s 0 refl))
 
-  -- the checks before reading have the numbers 1 to 3, those behind it 10, 21 and 22: none is settled at an octet
+  -- the checks before reading have the numbers 1 to 3, 13 and 22, those behind it 10, 21 and 22: none is settled at an octet
   early-before : (isBefore (first early) || eqb (first early) 0) ≡ true
-  early-before = guarded (λ (y : Fault). (isBefore (y .number) || eqb (y .number) 0) ≡ true) early (λ _. refl, λ _. (λ _. refl, λ _. (λ _. refl, λ _. (λ _. refl, λ _. tt)))) refl
+  early-before = guarded (λ (y : Fault). (isBefore (y .number) || eqb (y .number) 0) ≡ true) early (λ _. refl, λ _. (λ _. refl, λ _. (λ _. refl, λ _. (λ _. refl, λ _. (λ _. refl, λ _. (λ _. refl, λ _. tt)))))) refl
 
   early-unsettled : isSettled (first early) ≡ false
-  early-unsettled = guarded (λ (y : Fault). isSettled (y .number) ≡ false) early (λ _. refl, λ _. (λ _. refl, λ _. (λ _. refl, λ _. (λ _. refl, λ _. tt)))) refl
+  early-unsettled = guarded (λ (y : Fault). isSettled (y .number) ≡ false) early (λ _. refl, λ _. (λ _. refl, λ _. (λ _. refl, λ _. (λ _. refl, λ _. (λ _. refl, λ _. (λ _. refl, λ _. tt)))))) refl
 
   last-unsettled : isSettled (first (taking ++ late)) ≡ false
+  unfolding bothChecks
   last-unsettled = guarded (λ (y : Fault). isSettled (y .number) ≡ false) (taking ++ late) (λ _. refl, λ _. (λ _. refl, λ _. (λ _. refl, λ _. tt))) refl
 
   -- where those before it accept and reading does not, the refusal is reading's
@@ -109,7 +109,7 @@ module _ (st : State) (x : Arrival) where
       go false e =
           let is : first whole ≡ first early = ap (λ (y : Fault). y .number) (ap fault in-order ∙ fault-met early (reads ++ taking ++ late) e) in
           let zero : first early ≡ 0 = eqb-true (first early) 0 (simp (rw is at h) at early-before) in
-          absurd (omega (arith, first-least 1 early (omega arith, (omega arith, (omega arith, (omega arith, tt)))) e))
+          absurd (omega (arith, first-each (λ k. 1 ≤ k) early (omega arith, (omega arith, (omega arith, (omega arith, (omega arith, (omega arith, tt)))))) e))
 
 settled-refuses : (cs : List Check) → isSettled (first cs) ≡ true → accepted cs ≡ false
 settled-refuses cs h = go (accepted cs) refl

@@ -18,7 +18,7 @@ use Rattle.rules.specs.declared.Key.{Key}
 use Rattle.rules.specs.declared.Place.{Place}
 use Rattle.rules.specs.declared.Table.{Table}
 use Rattle.rules.proofs.Keys.{same-key}
-use Rattle.demands.specs.Machine.{ours, isOpening}
+use Rattle.demands.specs.Machine.{ours, isOpening, InRange}
 use Rattle.demands.specs.Seen.{seenBy}
 use Rattle.demands.specs.History.{Segment, Told, Deed, recordsIn, deedsOf, counted, EachDeed, EachIn}
 use Rattle.demands.specs.Demand3.{Ruled, View, held, owing}
@@ -27,7 +27,7 @@ use Rattle.demands.specs.Release.{Released, Release}
 use Rattle.demands.proofs.Spared.{clash}
 use Rattle.demands.proofs.Accepting.{release-good}
 use Rattle.demands.proofs.Refused.{zero-accepted}
-use Rattle.demands.proofs.Kept.{Inv, of-open, made-back, call-done, inv-opened, inv-call}
+use Rattle.demands.proofs.Kept.{Inv, of-open, made-back, timedOut, told, arrival-left, call-done, inv-opened, inv-call}
 use Rattle.demands.proofs.Running.{either, meets}
 use Rattle.demands.proofs.Timing.{anyOf, swept-is, lost-other, line-other}
 
@@ -48,7 +48,7 @@ module _ (st : State) (h : Told) (inv : Inv st h) where
     releases-records =
         let e = zero-accepted st (Releases x) (eqb-true _ 0 z) in
         let c = release-good t (x .report) (release-accepted t (st .summary) (x .report) (x .association) e .own) in
-        rw e (made-back st h inv (isOf (x .association)) (of-open st h inv (x .association)) 7 (x .report) (c .0) (c .1) (t .clock) (st .summary))
+        rw e (made-back st h inv (isOf (x .association)) (of-open st h inv (x .association)) 7 (x .report) (t .clock) (c .0) (c .1) (st .summary))
 
     released : (k : Key) → (lostBy 7 k (recordsIn (step st (Releases x) .answer)) ≡ true) ↔ ((k .association ≡ x .association) × (h .uncovered k ≡ [] → ⊥))
     unfolding held
@@ -66,14 +66,15 @@ module _ (st : State) (h : Told) (inv : Inv st h) where
   abbrev So : List Deed → Type 0
   So ds = EachDeed Ruled (counted h) ds → EachDeed Released (counted h) ds
 
-  pub released-call : (c : Call) → isOpening c ≡ false → EachIn Ruled h (seenBy ours st c) → EachIn Released h (seenBy ours st c)
+  pub released-call : (c : Call) → InRange c → isOpening c ≡ false → EachIn Ruled h (seenBy ours st c) → EachIn Released h (seenBy ours st c)
   unfolding EachIn deedsOf
-  released-call (Opens x) o = absurd (clash refl o)
-  released-call (Arrives x) o =
-      either So (eqb (step st (Arrives x) .answer .refusal) 0) _ (λ e d. (line-other 7 (omega arith) (counted h) (x .association) (x .parameter) _ (d .0), tt)) (λ d. tt)
-  released-call (Ticks x) o = either So (eqb (step st (Ticks x) .answer .refusal) 0) _ (λ e d. (λ k. lost-other 6 7 refl k (recordsIn (step st (Ticks x) .answer)) (d .0), tt)) (λ d. tt)
-  released-call (Releases x) o = either So (eqb (step st (Releases x) .answer .refusal) 0) _ (λ e d. (released x e, tt)) (λ d. tt)
-  released-call (Sends x) o = λ d. tt
+  released-call (Opens x) r o = absurd (clash refl o)
+  released-call (Arrives x) r o =
+      arrival-left st h inv x (r .1) (λ (st : State) (ds : List Deed). So ds) (λ d. tt) (λ e d. (λ k. lost-other 6 7 refl k (timedOut st h inv x) (d .0), tt))
+      (λ e f d. (λ k. lost-other 6 7 refl k (timedOut st h inv x) (d .0), (line-other 7 (omega arith) (told st h inv x) (x .association) (x .parameter) _ (d .1 .0), tt)))
+  released-call (Ticks x) r o = either So (eqb (step st (Ticks x) .answer .refusal) 0) _ (λ e d. (λ k. lost-other 6 7 refl k (recordsIn (step st (Ticks x) .answer)) (d .0), tt)) (λ d. tt)
+  released-call (Releases x) r o = either So (eqb (step st (Releases x) .answer .refusal) 0) _ (λ e d. (released x e, tt)) (λ d. tt)
+  released-call (Sends x) r o = λ d. tt
 
 pub opened-released : (st : State) (h : Told) (x : Opening) → EachIn Released h (seenBy ours st (Opens x))
 unfolding EachIn deedsOf
@@ -83,4 +84,4 @@ pub releasing : Release ours
 releasing =
     meets (EachIn Released) Inv
     (λ st h x r. (opened-released st h x, inv-opened st h x))
-    (λ st h inv c r o. (released-call st h inv c o (call-done st h inv c r o .ruled), inv-call st h inv c r o))
+    (λ st h inv c r o. (released-call st h inv c r o (call-done st h inv c r o .ruled), inv-call st h inv c r o))

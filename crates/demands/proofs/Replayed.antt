@@ -60,14 +60,17 @@ Fits Stops = Unit {0}
 item-fits : (kind : ℕ) (body : List ℕ) → Octets body → length body ≤ bodyLength kind → Fits (itemOf kind body)
 item-fits kind body o = go (eqb kind 32) (eqb kind 33) (eqb kind 34) (eqb kind 35)
   where
-    go : (a b c d : Bool) → length body ≤ (if a then 8 else if b then 258 else if c then 4 else 2)
+    go : (a b c d : Bool) → length body ≤ (if a then 8 else if b then 262 else if c then 4 else 2)
         → Fits (if a then Happens (Opening (number (take 4 body)) (number (drop 4 body))) else
-        if b then Happens (Segment (number (take 2 body)) (take (octet body 2) (drop 3 body))) else
+        if b then Happens (Segment (number (take 4 body)) (number (take 2 (drop 4 body))) (take (octet body 6) (drop 7 body))) else
         if c then Happens (Clock (number body)) else
         if d then Happens (Release (number body)) else
         Registers (kind ∷ body))
     go true b c d l = λ r. number-fits 4 (drop 4 body) (all-drop _ 4 body o) (rw length-drop (omega arith))
-    go false true c d l = λ r. number-fits 2 (take 2 body) (all-take _ 2 body o) (rw length-take (omega arith))
+    go false true c d l = λ r. (
+      number-fits 4 (take 4 body) (all-take _ 4 body o) (rw length-take (omega arith)),
+      number-fits 2 (take 2 (drop 4 body)) (all-take _ 2 (drop 4 body) (all-drop _ 4 body o)) (rw length-take (omega arith)),
+    )
     go false false true d l = λ r. number-fits 4 body o l
     go false false false true l = λ r. number-fits 2 body o l
     go false false false false l = tt
@@ -98,7 +101,7 @@ unopened-matches store =
 
 event-met : (r : Replay) (h : Told) → Matches (r .state) h → (e : Event) → InRange (callOf r e) → Met h (seenBy ours (r .state) (callOf r e))
 event-met r h m (Opening timer time) i = met-opened (r .state) h _ i
-event-met r h m (Segment association s) i = met (r .state) h m (callOf r (Segment association s)) i refl
+event-met r h m (Segment time association s) i = met (r .state) h m (callOf r (Segment time association s)) i refl
 event-met r h m (Clock time) i = met (r .state) h m (callOf r (Clock time)) i refl
 event-met r h m (Release association) i = met (r .state) h m (callOf r (Release association)) i refl
 

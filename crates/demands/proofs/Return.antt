@@ -2,26 +2,29 @@
 use Prim.Native.Nat.{ℕ, zero, suc, _+_, _-_, _*_, _≤_, _<_}
 use mathlib.Core.Path.{_≡_, refl, sym, ap, _∙_, subst}
 use mathlib.Core.Bool.{Bool, true, false, not, _&&_, _||_}
-use mathlib.Core.List.{List, [], _∷_}
+use mathlib.Core.List.{List, [], _∷_, _++_}
 use native.Mathlib.Omega.{arith}
 use native.Mathlib.Numerals.{add-one}
 use borrow.Author.Tests.{leb-false, eq-eqb, ne-eqb}
 use lib.Dec.{eqb, leb}
 use lib.ListN.{length, getD, set, take, drop, length-append, length-take, length-drop}
-use lib.Seq.{take-all}
+use lib.Seq.{take-all, drop-at}
 use Rattle.octets.specs.Splice.{splice}
 use Rattle.octets.proofs.Splice.{splice-length}
 use Rattle.rules.specs.General.{if_then_else_}
-use Rattle.rules.specs.Numbers.{placeStart, addressMost}
+use Rattle.rules.specs.Numbers.{placeStart}
 use Rattle.rules.specs.Registry.{kindOf}
 use Rattle.rules.specs.Layout.{isUnsegmented, fieldsOf}
 use Rattle.rules.specs.Records.{recordLength, recordOctets, recordsOctets, delivered}
 use Rattle.rules.specs.Places.{noPlace, freePlace, holds, isFree, placeOf, lowestFree, isAt, placeAt}
 use Rattle.rules.specs.Receiving.{lineOf, isStart, effectOf, saveAt, begun, longer, recordWith, receptionOf, Reception, Effect}
-use Rattle.rules.specs.Summary.{segmentWith}
+use Rattle.rules.specs.Refusals.{accepted}
+use Rattle.rules.specs.Sweep.{Sweeping, sweep, isDue}
+use Rattle.rules.specs.Summary.{Counted, counting, rowChecks, totalChecks, segmentSums, segmentWith}
+use Rattle.rules.specs.Arrival.{behind, bothChecks, bothWith}
 use Rattle.rules.specs.Delivery.{delivery, partOf}
 use Rattle.rules.specs.Sending.{firstCarries, laterCarries, pieceOf, headingFor, carried, sending}
-use Rattle.rules.specs.Calls.{State, stateOf, Call, Opens, Arrives, Ticks, Releases, Sends, step, As}
+use Rattle.rules.specs.Calls.{State, stateOf, Arrival, Call, Opens, Arrives, Ticks, Releases, Sends, Outcome, afterArrival, step, As}
 use Rattle.rules.specs.declared.Entry.{Entry}
 use Rattle.rules.specs.declared.Key.{Key}
 use Rattle.rules.specs.declared.Place.{Place}
@@ -38,16 +41,18 @@ use Rattle.rules.proofs.Keys.{same-self}
 use Rattle.octets.proofs.Number.{empty}
 use Rattle.rules.proofs.Cutting.{cuttable, pieces, pieces-step, cut-joins, alone-is, within-room}
 use Rattle.rules.proofs.ReadBack.{ReadsBack, read-back}
-use Rattle.demands.specs.Machine.{ours, CanCount, InRange, isOpening}
+use Rattle.demands.specs.Machine.{ours, clockOf, clockedBy, InRange, isOpening}
 use Rattle.demands.specs.Seen.{seenBy}
 use Rattle.demands.specs.Demand2.{Shipment, numbered, header, countIn, segmentedIn, segmentOf, Sender, sendingOf, Sendable, IsSent, keyIn, recordIn}
-use Rattle.demands.specs.Demand2.{Spares, arrivalOf, Meanwhile, stop, mine, other, isSaved, Saves, BeginsAs, Returns, Ready, CanTake, RoundTrip, Demand2}
+use Rattle.demands.specs.Demand2.{SparesTime, Spares, Slot, arrivalIn, arrivalOf, Comes, Meanwhile, stop, mine, other, isSaved, Saves, BeginsAs, Returns, Ready, placeAfter, CanTake, RoundTrip, Demand2}
 use Rattle.demands.specs.Demanded.{soFar, placeIn, Underway, CanBeSent, Carries}
-use Rattle.demands.proofs.Counted.{summary-kept}
+use Rattle.rules.proofs.Sweeping.{clock-sound}
+use Rattle.rules.proofs.Arrival.{losses-few, whole-parts, behind-long, clock-is, two-calls}
+use Rattle.demands.proofs.Counted.{clocked-counted, summary-kept}
 use Rattle.demands.proofs.Spared.{Kept, clash, first-at}
-use Rattle.demands.proofs.Typed.{typed-kept}
+use Rattle.demands.proofs.Typed.{clocked-typed, typed-kept}
 use Rattle.demands.proofs.Sound.{kept as sound-kept}
-use Rattle.demands.proofs.Sparing.{spared, registry-kept, store-kept}
+use Rattle.demands.proofs.Sparing.{clock-spared, spared, registry-kept, store-kept}
 use Rattle.rules.proofs.Records.{filled-of}
 use Rattle.demands.proofs.Arriving.{line-alone, line-new, line-later, arrives, joined-back, mine-kept, one-reported, place-delivers}
 
@@ -134,6 +139,22 @@ ready-kept x st c o range r =
       carrier = r .carrier;
     }
 
+-- .. after an arrival's clock work, and after an own arrival
+pub ready-clocked : (x : Shipment) (st : State) (y : Arrival) → Ready x st → Ready x (clockedBy st y)
+unfolding sweep
+ready-clocked x st y r =
+    record {
+      sound = clock-sound (st .table) (y .report) (y .time) (r .sound);
+      typed = clocked-typed st y (r .typed);
+      kind = r .kind;
+      store = r .store;
+      summary = clocked-counted st y (r .summary);
+      carrier = r .carrier;
+    }
+
+pub ready-came : (x : Shipment) (st : State) (k : ℕ) (at : Slot) → Comes x st k at → Ready x st → Ready x (step st (arrivalOf x k at) .state)
+ready-came x st k at comes r = ready-kept x st (arrivalOf x k at) refl (comes .range, r .carrier) r
+
 module _ (x : Shipment) (ok : (k : ℕ) → k < countIn x → Facts x k) where
   some : 1 ≤ countIn x
   some = go (segmentedIn x) refl
@@ -177,18 +198,56 @@ module _ (x : Shipment) (ok : (k : ℕ) → k < countIn x → Facts x k) where
         instruction = p .instruction;
       }
 
-  module _ (st : State) (r : Ready x st) (report : List ℕ) (ample : recordLength ≤ length report) (k : ℕ) (l : k < countIn x) (can : CanCount st (arrivalOf x k report)) where
+  progress-clocked : (j : ℕ) (st : State) (y : Arrival) → SparesTime st (keyIn x) y → Progress j st → Progress j (clockedBy st y)
+  progress-clocked j st y spares p =
+      record {
+        place = p .place;
+        held = p .held;
+        kept = clock-spared (keyIn x) (p .place) (p .held) (upTo j) st y spares (p .kept);
+        remaining = p .remaining;
+        segments = p .segments;
+        octets = p .octets;
+        instruction = p .instruction;
+      }
+
+  -- segment k comes: the segment's rule meets what the clock's work leaves, and has the report behind its records
+  module _ (old : State) (r₀ : Ready x old) (at : Slot) (k : ℕ) (l : k < countIn x) (comes : Comes x old k at) where
+    abbrev y : Arrival
+    y = arrivalIn x k at
+
+    abbrev w : Counted Sweeping
+    w = clockOf old y
+
+    abbrev st : State
+    st = clockedBy old y
+
+    abbrev report : List ℕ
+    report = behind w
+
+    r : Ready x st
+    r = ready-clocked x old y r₀
+
+    ample : recordLength ≤ length report
+    ample = behind-long (old .table) (old .summary) (old .store) (at .report) (at .time) (x .association) (segmentOf x k) (comes .timely) (r₀ .typed .count)
+
     abbrev ps : List Place
     ps = st .table .places
 
     abbrev sent : List ℕ
     sent = segmentOf x k
 
+    abbrev second : Counted Reception
+    second = segmentWith (st .table) (st .summary) (st .store) report (x .association) sent
+
     abbrev came : Reception
-    came = segmentWith (st .table) (st .summary) (st .store) report (x .association) sent .call
+    came = second .call
 
     abbrev call : Call
-    call = arrivalOf x k report
+    call = arrivalOf x k at
+
+    can : accepted (rowChecks (st .summary) (x .association) ++ totalChecks (st .summary) (segmentSums (st .table) (st .summary) (st .store) report (x .association) sent)) ≡ true
+    unfolding bothChecks
+    can = comes .counts
 
     abbrev f : Fields
     f =
@@ -214,24 +273,41 @@ module _ (x : Shipment) (ok : (k : ℕ) → k < countIn x → Facts x k) where
         (st .summary) (r .summary .sound) can place free e1 e2 line (rw (e3, e4) e5) e6
         ∙ (λ n. receptionOf (st .table) report (effectBy line place (e3 n) free (e4 n)))
 
-    state-is : (o : Reception) → came ≡ o → step st call .state ≡ stateOf (o .answer .table) (step st call .state .summary) (o .store)
+    -- what is not refused is both
+    both-is : (o : Reception) → came ≡ o → o .answer .refusal ≡ 0 → step old call ≡ afterArrival (bothWith w (counting (second .summary) o))
     unfolding step
-    state-is o e = ap (λ (o : Reception). stateOf (o .answer .table) (step st call .state .summary) (o .store)) e
+    both-is o e none =
+        let refusal : came .answer .refusal ≡ 0 = ap (λ (o : Reception). o .answer .refusal) e ∙ none in
+        let is = two-calls (old .table) (old .summary) (old .store) (at .report) (at .time) (x .association) sent (comes .timely) (r₀ .typed .count) (λ z. omega arith) in
+        let clock = clock-is (old .table) (old .summary) (old .store) (at .report) (at .time) (x .association) sent (comes .timely) in
+        ap afterArrival is ∙ (λ n. afterArrival (bothWith (clock n) (counting (second .summary) (e n))))
+
+    state-is : (o : Reception) → came ≡ o → o .answer .refusal ≡ 0 → step old call .state ≡ stateOf (o .answer .table) (second .summary) (o .store)
+    state-is o e none = ap (λ (u : Outcome). u .state) (both-is o e none)
 
     keeps-by : (o : Reception) → came ≡ o → o .answer .refusal ≡ 0 → isSaved (As (o .answer .decision)) ≡ true → o .answer .records ≡ 0
-        → Saves (step st call .answer)
-    unfolding step
-    keeps-by o e e1 e2 e3 = record { accepted = rw e e1; saved = rw e e2; records = rw e e3 }
+        → Saves (step old call .answer)
+    keeps-by o e e1 e2 e3 = rw (both-is o e e1) (record { accepted = e1; saved = e2; records = omega arith })
+
+    -- its record stands behind the clock's
+    behind-clocks : (o : Reception) → drop (w .call .answer .records * recordLength) (take (w .call .answer .records * recordLength) (w .call .report) ++ o .report) ≡ o .report
+    unfolding sweep
+    behind-clocks o =
+        let few = losses-few (isDue (at .time) (old .table .timer)) 6 (old .table .places) in
+        let count = r₀ .typed .count in
+        let long = whole-parts (old .table) (old .summary) (old .store) (at .report) (at .time) (x .association) sent (comes .timely) .reports in
+        let n : ℕ = w .call .answer .records * recordLength in
+        drop-at (take n (w .call .report)) (o .report) n (rw (length-take n (w .call .report), splice-length) (omega arith))
 
     returns-by : (o : Reception) → came ≡ o → o .answer .refusal ≡ 0 → o .answer .records ≡ 1 → take recordLength (o .report) ≡ recordOctets (recordIn x)
-        → delivery (o .answer .decision) sent (o .store) ≡ x .whole → Returns x (seenBy ours st call)
-    unfolding step
+        → delivery (o .answer .decision) sent (o .store) ≡ x .whole → Returns x (seenBy ours old call)
     returns-by o e e1 e2 e3 e4 =
+        let is = both-is o e e1 in
         record {
-          accepted = ap (λ (o : Reception). o .answer .refusal) e ∙ e1;
-          records = ap (λ (o : Reception). o .answer .records) e ∙ e2;
-          reported = ap (λ (o : Reception). take recordLength (o .report)) e ∙ e3;
-          handed = ap (λ (o : Reception). delivery (o .answer .decision) sent (o .store)) e ∙ e4;
+          accepted = ap (λ (u : Outcome). u .answer .refusal) is ∙ e1;
+          records = rw is (ap (λ (n : ℕ). w .call .answer .records + n) e2);
+          reported = rw (is, behind-clocks o) e3;
+          handed = rw is e4;
         }
 
     ended-by : (instruction segments n : ℕ) → instruction ≡ x .request .instruction → segments ≡ countIn x → n ≡ length (x .whole)
@@ -240,7 +316,7 @@ module _ (x : Shipment) (ok : (k : ℕ) → k < countIn x → Facts x k) where
 
     -- the only one
     module _ (whole-one : segmentedIn x ≡ false) where
-      returns-alone : Returns x (seenBy ours st call)
+      returns-alone : Returns x (seenBy ours old call)
       unfolding effectOf delivery
       returns-alone =
           returns-by _
@@ -308,14 +384,14 @@ module _ (x : Shipment) (ok : (k : ℕ) → k < countIn x → Facts x k) where
               came-is (At (p .place)) (lowestFree ps) (p .held) (part k) there refl (p .kept .there) carries Next
               (line ∙ rw (ne-eqb (countIn x - 1 - k) 0 (omega arith))) refl
 
-          keeps : Saves (step st call .answer)
+          keeps : Saves (step old call .answer)
           unfolding effectOf
           keeps = keeps-by _ went refl refl refl
 
-          goes-on : Progress (suc k) (step st call .state)
+          goes-on : Progress (suc k) (step old call .state)
           unfolding effectOf new
           goes-on =
-              subst (λ (u : State). Progress (suc k) u) (sym (state-is _ went))
+              subst (λ (u : State). Progress (suc k) u) (sym (state-is _ went refl))
               (record {
                 place = p .place;
                 held = new;
@@ -349,17 +425,20 @@ module _ (x : Shipment) (ok : (k : ℕ) → k < countIn x → Facts x k) where
               ∙ rw n (joined-back (st .store) (p .place) (p .held .octets) (upTo k) (part k) (p .octets) (p .kept .stretch) stores)
               ∙ whole-is
 
-          returns : Returns x (seenBy ours st call)
+          returns : Returns x (seenBy ours old call)
           unfolding effectOf
           returns = returns-by _ ended refl refl (ended-by _ _ _ (p .instruction) (omega (arith, p .segments)) octets-is) delivers
 
   -- the first of several
-  module _ (st : State) (r : Ready x st) (report : List ℕ) (ample : recordLength ≤ length report) (several : segmentedIn x ≡ true) (can : CanCount st (arrivalOf x 0 report)) where
+  module _ (old : State) (r₀ : Ready x old) (at : Slot) (several : segmentedIn x ≡ true) (comes : Comes x old 0 at) where
+    abbrev now : State
+    now = clockedBy old (arrivalIn x 0 at)
+
     abbrev places : List Place
-    places = st .table .places
+    places = now .table .places
 
     abbrev begins : Call
-    begins = arrivalOf x 0 report
+    begins = arrivalOf x 0 at
 
     begun-line : (c : Bool) (before saved : ℕ) → lineOf c before saved (headingIn x 0) (length (part 0)) ≡ (if c then Restart else Start)
     begun-line c before saved =
@@ -367,17 +446,17 @@ module _ (x : Shipment) (ok : (k : ℕ) → k < countIn x → Facts x k) where
         (ok 0 some .alone ∙ rw several) (omega (arith, ok 0 some .ten)) refl
 
     start : Place
-    start = begun (st .table .clock) (keyIn x) (headingIn x 0) (length (part 0))
+    start = begun (now .table .clock) (keyIn x) (headingIn x 0) (length (part 0))
 
     -- its place, wherever it is
     placed : (m : ℕ) → m < length places → ((j : ℕ) → j < m → holds (keyIn x) (getD places j noPlace) ≡ false)
-        → Kept (keyIn x) m start (upTo 1) (set places m start) (saveAt (st .store) m 0 (part 0))
+        → Kept (keyIn x) m start (upTo 1) (set places m start) (saveAt (now .store) m 0 (part 0))
     unfolding start
     placed m inside before =
-        let n = r .typed .count in
-        let w = r .store in
+        let n = ready-clocked x old (arrivalIn x 0 at) r₀ .typed .count in
+        let long = r₀ .store in
         let most = upTo-most 1 in
-        mine-kept (keyIn x) places m start (st .store) 0 [] (part 0) inside before (same-self (keyIn x)) refl refl (omega arith)
+        mine-kept (keyIn x) places m start (now .store) 0 [] (part 0) inside before (same-self (keyIn x)) refl refl (omega arith)
 
     begun-progress : (m : ℕ) (u : State) → Kept (keyIn x) m start (upTo 1) (u .table .places) (u .store) → Progress 1 u
     unfolding start
@@ -385,35 +464,31 @@ module _ (x : Shipment) (ok : (k : ℕ) → k < countIn x → Facts x k) where
         record { place = m; held = start; kept = kept; remaining = omega arith; segments = refl; octets = refl; instruction = refl }
 
     record Begun (place : Found) : Type 0 where
-      answer : BeginsAs (step st begins .answer) place (isAt place)
-      progress : Progress 1 (step st begins .state)
+      answer : BeginsAs (step old begins .answer) place (isAt place)
+      progress : Progress 1 (step old begins .state)
 
     restarted : (m : ℕ) → placeOf (keyIn x) places ≡ At m → IsFirst (holds (keyIn x)) places (At m) → Begun (At m)
-    unfolding step effectOf start
+    unfolding effectOf start
     restarted m e h =
-        let went = came-is st r report ample 0 some can (At m) (lowestFree places) (getD places m noPlace) (part 0) e refl refl (carries st r report ample 0 some can several) Restart
+        let went = came-is old r₀ at 0 some comes (At m) (lowestFree places) (getD places m noPlace) (part 0) e refl refl (carries old r₀ at 0 some comes several) Restart
         (begun-line true _ _) refl in
         record {
-          answer = record {
-            accepted = ap (λ (o : Reception). o .answer .refusal) went;
-            lost = ap (λ (o : Reception). As (o .answer .decision)) went;
-            records = ap (λ (o : Reception). o .answer .records) went;
-          };
-          progress = subst (λ (u : State). Progress 1 u) (sym (state-is st r report ample 0 some can _ went)) (begun-progress m _ (placed m (h .0) (h .2)));
+          answer = rw (both-is old r₀ at 0 some comes _ went refl) (record { accepted = refl; lost = refl; records = refl });
+          progress = subst (λ (u : State). Progress 1 u) (sym (state-is old r₀ at 0 some comes _ went refl)) (begun-progress m _ (placed m (h .0) (h .2)));
         }
 
     started : (m : ℕ) → placeOf (keyIn x) places ≡ Nothing → lowestFree places ≡ At m → IsFirst (holds (keyIn x)) places Nothing → IsFirst isFree places (At m)
         → Begun Nothing
     unfolding effectOf start
     started m e e′ h g =
-        let went = came-is st r report ample 0 some can Nothing (At m) freePlace (part 0) e e′ refl (carries st r report ample 0 some can several) Start (begun-line false _ _) refl in
+        let went = came-is old r₀ at 0 some comes Nothing (At m) freePlace (part 0) e e′ refl (carries old r₀ at 0 some comes several) Start (begun-line false _ _) refl in
         record {
-          answer = keeps-by st r report ample 0 some can _ went refl refl refl;
-          progress = subst (λ (u : State). Progress 1 u) (sym (state-is st r report ample 0 some can _ went))
+          answer = keeps-by old r₀ at 0 some comes _ went refl refl refl;
+          progress = subst (λ (u : State). Progress 1 u) (sym (state-is old r₀ at 0 some comes _ went refl))
               (begun-progress m _ (placed m (g .0) (λ j l. h j (omega (arith, g .0)))));
         }
 
-    begun-first : CanTake x st → Begun (placeOf (keyIn x) places)
+    begun-first : CanTake x old at → Begun (placeOf (keyIn x) places)
     begun-first = go (placeOf (keyIn x) places) refl (place-is (keyIn x) places) (lowestFree places) refl (free-is places)
       where
         go : (place : Found) → placeOf (keyIn x) places ≡ place → IsFirst (holds (keyIn x)) places place → (free : Found) → lowestFree places ≡ free
@@ -425,30 +500,30 @@ module _ (x : Shipment) (ok : (k : ℕ) → k < countIn x → Facts x k) where
   -- between the segments
   ahead : {st st′ : State} {i j : ℕ} → Meanwhile ours x st i st′ j → i ≤ j
   ahead stop = omega arith
-  ahead (mine report ample can rest) = let l = ahead rest in omega arith
+  ahead (mine at comes rest) = let l = ahead rest in omega arith
   ahead (other c range spares rest) = ahead rest
 
   along : {st st′ : State} {i j : ℕ} → segmentedIn x ≡ true → Meanwhile ours x st i st′ j → 1 ≤ i → j < countIn x → Ready x st → Progress i st
       → Ready x st′ × Progress j st′
   along several stop one under r p = (r, p)
-  along several (mine {st} {st′} {i} {j} report ample can rest) one under r p =
+  along several (mine {st} {st′} {i} {j} at comes rest) one under r p =
       let l = ahead rest in
-      along several rest (omega arith) under (ready-kept x st (arrivalOf x i report) refl (r .carrier) r)
-      (goes-on st r report ample i (omega arith) can several p one (omega arith))
+      along several rest (omega arith) under (ready-came x st i at comes r)
+      (goes-on st r at i (omega arith) comes several (progress-clocked i st (arrivalIn x i at) (comes .spares) p) one (omega arith))
   along several (other {st} {st′} {i} {j} c range spares rest) one under r p =
       along several rest one under (ready-kept x st c (not-opening st (keyIn x) c spares) range r) (progress-kept i st c r spares p)
 
-  round-trip : (st : State) → Ready x st → (report : List ℕ) → recordLength ≤ length report → RoundTrip ours x st report
-  round-trip st r report ample =
+  round-trip : (st : State) → Ready x st → (at : Slot) → Comes x st 0 at → RoundTrip ours x st at
+  round-trip st r at comes =
       record {
-        alone = λ whole-one can. returns-alone st r report ample 0 some can whole-one;
-        first = λ several some can. begun-first st r report ample several can some .answer;
-        later = λ several some can j under st′ rest again wide-enough counts.
+        alone = λ whole-one. returns-alone st r at 0 some comes whole-one;
+        first = λ several can. begun-first st r at several comes can .answer;
+        later = λ several can j under st′ rest again comes′.
             let l = ahead rest in
-            let there = along several rest (omega arith) under (ready-kept x st (arrivalOf x 0 report) refl (r .carrier) r)
-            (begun-first st r report ample several can some .progress) in (
-              λ more. keeps st′ (there .0) again wide-enough j under counts several (there .1) (omega arith) more,
-              λ last. returns st′ (there .0) again wide-enough j under counts several (there .1) (omega arith) last,
+            let there = along several rest (omega arith) under (ready-came x st 0 at comes r) (begun-first st r at several comes can .progress) in
+            let p = progress-clocked j st′ (arrivalIn x j again) (comes′ .spares) (there .1) in (
+              λ more. keeps st′ (there .0) again j under comes′ several p (omega arith) more,
+              λ last. returns st′ (there .0) again j under comes′ several p (omega arith) last,
             );
       }
 
@@ -491,25 +566,24 @@ module _ (x : Shipment) (ok : (k : ℕ) → k < countIn x → Facts x k) where
   spared-underway st c range j u spares =
       underway j (step st c .state) (ready-kept x st c (not-opening st (keyIn x) c spares) range (u .ready)) (progress-kept j st c (u .ready) spares (progress j st u))
 
-  module _ (st : State) (report : List ℕ) (ample : recordLength ≤ length report) where
-    first-underway : segmentedIn x ≡ true → Ready x st → CanTake x st → CanCount st (arrivalOf x 0 report)
-        → BeginsAs (step st (arrivalOf x 0 report) .answer) (placeOf (keyIn x) (st .table .places)) (isAt (placeOf (keyIn x) (st .table .places)))
-        × Underway x 1 (step st (arrivalOf x 0 report) .state)
-    first-underway several r vacant can =
-        let b = begun-first st r report ample several can vacant in
-        (b .answer, underway 1 _ (ready-kept x st (arrivalOf x 0 report) refl (r .carrier) r) (b .progress))
+  pub underway-clocked : (st : State) (y : Arrival) (j : ℕ) → Underway x j st → SparesTime st (keyIn x) y → Underway x j (clockedBy st y)
+  underway-clocked st y j u spares = underway j (clockedBy st y) (ready-clocked x st y (u .ready)) (progress-clocked j st y spares (progress j st u))
 
-    later-underway : segmentedIn x ≡ true → (j : ℕ) → 1 ≤ j → j < countIn x → Underway x j st → CanCount st (arrivalOf x j report)
-        → (suc j < countIn x → Saves (step st (arrivalOf x j report) .answer) × Underway x (suc j) (step st (arrivalOf x j report) .state))
-        × (suc j ≡ countIn x → Returns x (seenBy ours st (arrivalOf x j report)))
-    later-underway several j one under u can =
+  module _ (st : State) (at : Slot) where
+    first-underway : segmentedIn x ≡ true → Ready x st → Comes x st 0 at → CanTake x st at
+        → BeginsAs (step st (arrivalOf x 0 at) .answer) (placeAfter x st at) (isAt (placeAfter x st at)) × Underway x 1 (step st (arrivalOf x 0 at) .state)
+    first-underway several r comes vacant =
+        let b = begun-first st r at several comes vacant in
+        (b .answer, underway 1 _ (ready-came x st 0 at comes r) (b .progress))
+
+    later-underway : segmentedIn x ≡ true → (j : ℕ) → 1 ≤ j → j < countIn x → Underway x j st → Comes x st j at
+        → (suc j < countIn x → Saves (step st (arrivalOf x j at) .answer) × Underway x (suc j) (step st (arrivalOf x j at) .state))
+        × (suc j ≡ countIn x → Returns x (seenBy ours st (arrivalOf x j at)))
+    later-underway several j one under u comes =
         let r = u .ready in
-        let p = progress j st u in (
-          λ more. (
-            keeps st r report ample j under can several p one more,
-            underway (suc j) _ (ready-kept x st (arrivalOf x j report) refl (r .carrier) r) (goes-on st r report ample j under can several p one more),
-          ),
-          λ last. returns st r report ample j under can several p one last,
+        let p = progress-clocked j st (arrivalIn x j at) (comes .spares) (progress j st u) in (
+          λ more. (keeps st r at j under comes several p one more, underway (suc j) _ (ready-came x st j at comes r) (goes-on st r at j under comes several p one more)),
+          λ last. returns st r at j under comes several p one last,
         )
 
 pub all-facts : (x : Shipment) → CanBeSent x → (k : ℕ) → k < countIn x → Facts x k
@@ -524,18 +598,15 @@ carries-all st c range =
       arrives = λ x can.
           (let ok = all-facts x can in
           record {
-            alone = λ one r can report ample e.
-                subst (λ (c : Call). Returns x (seenBy ours st c)) (sym e) (returns-alone x ok st r report ample 0 (some x ok) (subst (CanCount st) e can) one);
-            first = λ several r vacant can report ample e.
-                subst
-                (λ (c : Call).
-                BeginsAs (step st c .answer) (placeOf (keyIn x) (st .table .places)) (isAt (placeOf (keyIn x) (st .table .places))) × Underway x 1 (step st c .state))
-                (sym e) (first-underway x ok st report ample several r vacant (subst (CanCount st) e can));
-            later = λ several j one under u can report ample e.
+            alone = λ one r at comes e. subst (λ (c : Call). Returns x (seenBy ours st c)) (sym e) (returns-alone x ok st r at 0 (some x ok) comes one);
+            first = λ several r at comes vacant e.
+                subst (λ (c : Call). BeginsAs (step st c .answer) (placeAfter x st at) (isAt (placeAfter x st at)) × Underway x 1 (step st c .state)) (sym e)
+                (first-underway x ok st at several r comes vacant);
+            later = λ several j one under u at comes e.
                 subst
                 (λ (c : Call).
                 (suc j < countIn x → Saves (step st c .answer) × Underway x (suc j) (step st c .state)) × (suc j ≡ countIn x → Returns x (seenBy ours st c)))
-                (sym e) (later-underway x ok st report ample several j one under u (subst (CanCount st) e can));
+                (sym e) (later-underway x ok st at several j one under u comes);
           });
       spares = λ x can j u spares. spared-underway x (all-facts x can) st c range j u spares;
     }
@@ -544,6 +615,6 @@ pub demand-2 : Demand2 ours
 demand-2 =
     record {
       made = made-is;
-      back = λ x from can st r report ample. round-trip x (λ k l. facts x (from k) k (can k l)) st r report ample;
+      back = λ x from can st r at comes. round-trip x (λ k l. facts x (from k) k (can k l)) st r at comes;
       delivers = λ d s store. refl;
     }

@@ -4,10 +4,11 @@ use mathlib.Core.Bool.{Bool, true, false}
 use mathlib.Core.List.{List, [], _∷_, map}
 use lib.Dec.{eqb}
 use Rattle.rules.specs.General.{if_then_else_}
-use Rattle.rules.specs.Calls.{State, Call, Opens, Arrives, Ticks, Releases, Sends, Opening, step}
+use Rattle.rules.specs.Arrival.{stands}
+use Rattle.rules.specs.Calls.{State, Call, Opens, Arrives, Ticks, Releases, Sends, Opening, Arrival, Answer, step}
 use Rattle.demands.specs.Machine.{Machine, ours, parameterOf, isOpening, All, InRange}
 use Rattle.demands.specs.Seen.{Seen, Chained, handing, seenBy, runOf}
-use Rattle.demands.specs.History.{Told, Deed, deedsOf, counted, didAll, after, silence, Along, Meets}
+use Rattle.demands.specs.History.{Told, Deed, Takes, Passes, timeoutsIn, ownIn, arrivalDeeds, deedsOf, counted, didAll, after, silence, Along, Meets}
 use Rattle.demands.specs.Exactly.{ByRules}
 
 -- a machine's run is one
@@ -64,6 +65,19 @@ pub either : (P : List Deed → Type 0) (b : Bool) (d : Deed) → (b ≡ true �
 either P true d one none = one refl
 either P false d one none = none
 
+-- an arrival's deeds: both, the first, or none
+pub arrival-either : (P : List Deed → Type 0) (x : Arrival) (a : Answer)
+    → (eqb (a .refusal) 0 ≡ true → P (Passes (x .time) (timeoutsIn a) ∷ Takes (x .association) (x .parameter) (ownIn a) ∷ []))
+    → (eqb (a .refusal) 0 ≡ false → stands (a .refusal) ≡ true → P (Passes (x .time) (timeoutsIn a) ∷ []))
+    → P [] → P (arrivalDeeds x a)
+arrival-either P x a both one none = go (eqb (a .refusal) 0) (stands (a .refusal)) refl refl
+  where
+    go : (b c : Bool) → eqb (a .refusal) 0 ≡ b → stands (a .refusal) ≡ c
+        → P (if b then Passes (x .time) (timeoutsIn a) ∷ Takes (x .association) (x .parameter) (ownIn a) ∷ [] else if c then Passes (x .time) (timeoutsIn a) ∷ [] else [])
+    go true c e f = both e
+    go false true e f = one e f
+    go false false e f = none
+
 -- only an opening tells whether the last one was accepted
 pub still-opened : (h : Told) (x : Seen) → isOpening (x .call) ≡ false → after h x .opened ≡ h .opened
 unfolding after deedsOf
@@ -74,7 +88,7 @@ still-opened h x e = go (x .call) e
 
     go : (c : Call) → isOpening c ≡ false → didAll (counted h) (deedsOf c (x .answer)) .opened ≡ h .opened
     go (Opens y) e = cc
-    go (Arrives y) e = either Still (eqb (x .answer .refusal) 0) _ (λ z. refl) refl
+    go (Arrives y) e = arrival-either Still y (x .answer) (λ z. refl) (λ z f. refl) refl
     go (Ticks y) e = either Still (eqb (x .answer .refusal) 0) _ (λ z. refl) refl
     go (Releases y) e = either Still (eqb (x .answer .refusal) 0) _ (λ z. refl) refl
     go (Sends y) e = refl

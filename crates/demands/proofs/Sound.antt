@@ -4,22 +4,23 @@ use mathlib.Core.Path.{_≡_, refl, sym, _∙_}
 use mathlib.Core.Bool.{Bool, true, false, not, _&&_, _||_, and-eq-true-iff, true≢false}
 use mathlib.Core.List.{List, [], _∷_}
 use native.Mathlib.Omega.{arith}
-use borrow.Author.Tests.{eqb-true, leb-true, ne-eqb, le-leb, not-true, not-false}
-use lib.Dec.{eqb, leb}
+use borrow.Author.Tests.{eqb-true, leb-true, ne-eqb, not-true, not-false}
+use lib.Dec.{leb}
 use lib.ListN.{length, drop, getD, length-drop}
-use Rattle.rules.specs.General.{if_then_else_, every, everyTwo}
+use Rattle.rules.specs.General.{every, everyTwo}
 use Rattle.rules.specs.Numbers.{entriesMost, timerInRange, elapsed}
 use Rattle.rules.specs.Refusals.{Check, _when_, accepted, first}
 use Rattle.rules.specs.Registry.{kindOf, entriesOf, isCut, isUnused, isEntry, isUsable, entriesApart, listsRegistry}
 use Rattle.rules.specs.Layout.{isUnsegmented, contextOf, originAt, pastAddress, fieldsOf, readingChecks}
 use Rattle.rules.specs.Places.{noPlace, freePlace, holds, isAt, placeOf, placeAt, putPlace, lowestFree}
-use Rattle.rules.specs.Soundness.{isZero, addressSound, freeSound, placeSound, placesApart, sound}
+use Rattle.rules.specs.Soundness.{addressSound, freeSound, placeSound, placesApart, sound}
 use Rattle.rules.specs.Opening.{emptyTable, openingChecks}
-use Rattle.rules.specs.Receiving.{keyOf, informationOf, openPlace, begun, lineOf, effectOf, segmentChecks, Reception}
+use Rattle.rules.specs.Receiving.{keyOf, informationOf, openPlace, begun, lineOf, effectOf, Reception}
 use Rattle.rules.specs.Sweep.{Sweeping, clockChecks, releaseChecks}
-use Rattle.rules.specs.Summary.{summarySound, segmentChecksWith, clockChecksWith, releaseChecksWith}
+use Rattle.rules.specs.Summary.{summarySound, clockChecksWith, releaseChecksWith}
+use Rattle.rules.specs.Arrival.{wholeChecks, arrivalChecks}
 use Rattle.rules.specs.Sending.{sendingChecks}
-use Rattle.rules.specs.Calls.{State, Call, Opens, Arrives, Ticks, Releases, Sends, Opening, step}
+use Rattle.rules.specs.Calls.{State, Arrival, Call, Opens, Arrives, Ticks, Releases, Sends, Opening, step}
 use Rattle.rules.specs.declared.Entry.{Entry}
 use Rattle.rules.specs.declared.Key.{Key}
 use Rattle.rules.specs.declared.Place.{Place}
@@ -29,7 +30,7 @@ use Rattle.rules.specs.declared.Found.{Found}
 use Rattle.rules.specs.declared.Found.the-variants.{At, Nothing}
 use Rattle.rules.specs.declared.Line.{Line}
 use Rattle.rules.specs.declared.Opened.{Opened}
-use Rattle.rules.proofs.Refusals.{Least, first-least, accepted-first}
+use Rattle.rules.proofs.Refusals.{Least, first-each, accepted-first}
 use Rattle.rules.proofs.Registry.{every-unused, padded-apart}
 use Rattle.rules.proofs.Reading.{parameter-short, origin-short, destination-short, context-registered, reference-short}
 use Rattle.rules.proofs.Places.{IsFirst, place-is}
@@ -40,12 +41,13 @@ use Rattle.rules.proofs.Lines.{line-cases}
 use Rattle.rules.proofs.Apart.{every-set, two-at, two-set, apart-new, apart-own, apart-free}
 use Rattle.rules.proofs.Sweeping.{open-place, clock-sound, release-sound}
 use Rattle.rules.proofs.Soundness.{SoundTable, sound-parts, sound-of, OpenPlace, open-parts, open-of, free-sound, span-sound}
-use Rattle.demands.specs.Machine.{ours, checksOf, isOpening, SoundSummary}
+use Rattle.demands.specs.Machine.{ours, checksOf, clockedBy, isOpening, SoundSummary}
 use Rattle.demands.specs.Seen.{seenBy}
 use Rattle.demands.specs.History.{Told, deedsOf, after}
 use Rattle.demands.specs.Soundness.{LeavesSound, NotBy1, Sound}
 use Rattle.demands.proofs.Refused.{number, accepted-zero, zero-accepted, ones, others-least}
 use Rattle.demands.proofs.Counted.{summary-emptied, summary-kept}
+use Rattle.demands.proofs.Parts.{segmented, arrival-state}
 use Rattle.demands.proofs.Running.{meets, still-opened}
 
 -- a place as a sound table has it
@@ -223,10 +225,8 @@ unfolding step
 opened st x ok =
     opened-by (λ (o : Opened). sound (o .table) ≡ true) (x .registry) (x .timer) (x .time) (empty-sound (x .registry) (x .timer) (x .time)) (λ e. cc)
 
-pub kept : (st : State) (c : Call) → isOpening c ≡ false → sound (st .table) ≡ true → sound (step st c .state .table) ≡ true
-unfolding step
-kept st (Opens x) h s = cc
-kept st (Arrives x) h s =
+segment-sound : (st : State) (x : Arrival) → sound (st .table) ≡ true → sound (segmented st x .state .table) ≡ true
+segment-sound st x s =
     let t : Table = st .table in
     let ok = sound-parts t s in
     let key : Key = keyOf (x .association) (x .parameter) (fieldsOf (t .registry) (x .parameter)) in
@@ -237,6 +237,13 @@ kept st (Arrives x) h s =
     let good = segment-good t ok (x .association) (x .parameter) reading (st .store) (placeOf key (t .places)) (place-is key (t .places)) (lowestFree (t .places)) in
     sound-of _ (record { timer = ok .timer; registry = ok .registry; places = good .0; apart = good .1 }))
     (λ e. s)
+
+pub kept : (st : State) (c : Call) → isOpening c ≡ false → sound (st .table) ≡ true → sound (step st c .state .table) ≡ true
+unfolding step
+kept st (Opens x) h s = cc
+kept st (Arrives x) h s =
+    let after = clock-sound (st .table) (x .report) (x .time) s in
+    arrival-state st x (λ (st : State). sound (st .table) ≡ true) s (λ e. after) (λ e f. segment-sound (clockedBy st x) x after)
 kept st (Ticks x) h s =
     clock-by (st .table) (st .summary) (x .report) (x .time) (λ (o : Sweeping). sound (o .answer .table) ≡ true)
     (λ e. clock-sound (st .table) (x .report) (x .time) s)
@@ -252,13 +259,13 @@ over-1 cs h e = go (accepted cs) refl
   where
     go : (b : Bool) → accepted cs ≡ b → ⊥
     go true a = omega (arith, accepted-first cs a)
-    go false a = omega (arith, first-least 2 cs h a)
+    go false a = omega (arith, first-each (λ k. 2 ≤ k) cs h a)
 
 first-passed : (b : Bool) (n : ℕ) (cs : List Check) → b ≡ true → first (n when not b ∷ cs) ≡ first cs
 first-passed b n cs e = rw e
 
 pub passes-1 : (st : State) (c : Call) → isOpening c ≡ false → sound (st .table) ≡ true → summarySound (st .summary) (st .table .places) ≡ true → first (checksOf st c) ≡ 1 → ⊥
-unfolding segmentChecksWith segmentChecks clockChecksWith clockChecks releaseChecksWith releaseChecks sendingChecks
+unfolding arrivalChecks wholeChecks clockChecksWith clockChecks releaseChecksWith releaseChecks sendingChecks
 passes-1 st c o s m e = go c o (others-least st c) e
   where
     both : (cs : List Check) → Least 2 cs → first (1 when not (summarySound (st .summary) (st .table .places)) ∷ 1 when not (sound (st .table)) ∷ cs) ≡ 1 → ⊥
@@ -302,7 +309,7 @@ opening-over-1 st o e = go (accepted (checksOf st (Opens o))) refl
 
     go : (b : Bool) → accepted (checksOf st (Opens o)) ≡ b → ⊥
     go true a = omega (arith, accepted-zero st (Opens o) a)
-    go false a = omega (arith, number st (Opens o), first-least 2 (checksOf st (Opens o)) least a)
+    go false a = omega (arith, number st (Opens o), first-each (λ k. 2 ≤ k) (checksOf st (Opens o)) least a)
 
 pub soundness : Sound ours
 unfolding after deedsOf

@@ -271,7 +271,7 @@ freed-none k test p e = go (test p)
     go true = refl
     go false = e
 
-freed-at : (test : Place → Bool) → test noPlace ≡ false → (ps : List Place) (i : ℕ) → getD (map (freedBy test) ps) i noPlace ≡ freedBy test (getD ps i noPlace)
+pub freed-at : (test : Place → Bool) → test noPlace ≡ false → (ps : List Place) (i : ℕ) → getD (map (freedBy test) ps) i noPlace ≡ freedBy test (getD ps i noPlace)
 freed-at test e ps i =
     let z : freedBy test noPlace ≡ noPlace = rw e in
     rw z at (List·getD-map (freedBy test) ps i noPlace)

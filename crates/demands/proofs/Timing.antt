@@ -17,7 +17,8 @@ use Rattle.rules.specs.Receiving.{lineOf}
 use Rattle.rules.specs.Sweep.{lossOf, reportLeast, isDue, lossesBy}
 use Rattle.rules.specs.Summary.{clockWith, clockChecksWith}
 use Rattle.rules.proofs.Answers.{clock-accepted}
-use Rattle.rules.specs.Calls.{State, Call, Opens, Arrives, Ticks, Releases, Sends, Opening, Tick, step}
+use Rattle.rules.specs.Refusals.{accepted}
+use Rattle.rules.specs.Calls.{State, Call, Opens, Arrives, Ticks, Releases, Sends, Opening, Arrival, Tick, step}
 use Rattle.rules.specs.declared.Entry.{Entry}
 use Rattle.rules.specs.declared.Key.{Key}
 use Rattle.rules.specs.declared.Place.{Place}
@@ -27,9 +28,10 @@ use Rattle.rules.specs.declared.Line.{Line}
 use Rattle.rules.specs.declared.Record.{Record}
 use Rattle.rules.proofs.Numbers.{elapsed-leads, elapsed-is}
 use Rattle.rules.proofs.Held.{open-is, places-sound}
-use Rattle.demands.specs.Machine.{ours, isOpening, All, InRange}
+use Rattle.demands.specs.Machine.{ours, clockedBy, wholeOf, isOpening, All, InRange}
+use Rattle.demands.proofs.Parts.{clock-allowed}
 use Rattle.demands.specs.Seen.{seenBy}
-use Rattle.demands.specs.History.{Segment, Told, Deed, Takes, Passes, Ends, filed, settled, arrived, leftIn, recordsIn, deedsOf, beginning, counted, didAll, EachDeed, EachIn, after, isRestart, lineIn}
+use Rattle.demands.specs.History.{Segment, Told, Deed, Takes, Passes, Ends, filed, settled, arrived, leftIn, recordsIn, deedsOf, beginning, counted, did, didAll, EachDeed, EachIn, after, isRestart, lineIn}
 use Rattle.demands.specs.Demand3.{Ending, endingOf, endingsOf, TakenBy, Ruled, IsLost, View, viewOf, heldFrom, held, owing}
 use Rattle.demands.specs.Demanded.{Early}
 use Rattle.demands.specs.Timer.{lostBy, isOld, ticksAfter, Timed, Timer}
@@ -37,7 +39,7 @@ use Rattle.demands.proofs.ByLine.{line-cases}
 use Rattle.demands.proofs.Spared.{clash}
 use Rattle.demands.proofs.Accepting.{clock-good}
 use Rattle.demands.proofs.Refused.{zero-accepted}
-use Rattle.demands.proofs.Kept.{Inv, due-open, made-back, call-done, inv-opened, inv-call}
+use Rattle.demands.proofs.Kept.{Inv, counted-inv, due-open, made-back, effect, timedOut, told, inv-later, arrival-left, call-done, inv-opened, inv-call}
 use Rattle.demands.proofs.Running.{either, meets}
 
 abbrev pub Prompt : ℕ → ℕ → (Key → List Segment) → Type 0
@@ -173,16 +175,6 @@ module _ (st : State) (h : Told) (inv : Inv st h) where
   abbrev t : Table
   t = st .table
 
-  ticks-good : (x : Tick) → eqb (step st (Ticks x) .answer .refusal) 0 ≡ true → (sound t ≡ true) × (reportLeast ≤ length (x .report)) × (elapsed (x .time) (t .clock) < 2 ^ 31)
-  ticks-good x e = clock-good t (x .report) (x .time) (clock-accepted t (st .summary) (x .report) (x .time) (zero-accepted st (Ticks x) (eqb-true _ 0 e)) .own)
-
-  ticks-records : (x : Tick) → eqb (step st (Ticks x) .answer .refusal) 0 ≡ true → recordsIn (step st (Ticks x) .answer) ≡ lossesBy (isDue (x .time) (t .timer)) 6 (t .places)
-  unfolding step clockWith clockChecksWith
-  ticks-records x e =
-      let c = ticks-good x e in
-      rw (zero-accepted st (Ticks x) (eqb-true _ 0 e))
-      (made-back st h inv (isDue (x .time) (t .timer)) (due-open st h inv (x .time) (t .timer)) 6 (x .report) (c .0) (c .1) (x .time) (st .summary))
-
   module _ (timely : Timely h) where
     -- what is uncovered is not T old, and stays timed by the clock
     older : (time : ℕ) → time < 2 ^ 32 → sound t ≡ true → elapsed time (t .clock) < 2 ^ 31 → Prompt time (ticksAfter h time) (h .uncovered)
@@ -199,31 +191,9 @@ module _ (st : State) (h : Told) (inv : Inv st h) where
             let far : elapsed time (h .time) < 2 ^ 31 = rw (← link) step in
             (y .0, (let z = y .1 in omega arith), elapsed-more time (h .time) (x .time) (h .ticks) (x .ticks) b (timely .time) (y .0) (y .1) (y .2) now far)
 
-    -- the same history, counted
-    still : Timely (counted h)
-    still = record { time = timely .time; early = timely .early }
-
-    pub timely-call : (c : Call) → InRange c → isOpening c ≡ false → Timely (after h (seenBy ours st c))
-    unfolding after deedsOf
-    timely-call (Opens x) r o = absurd (clash refl o)
-    timely-call (Arrives x) r o =
-        let rs : List Record = recordsIn (step st (Arrives x) .answer) in
-        either (λ (ds : List Deed). Timely (didAll (counted h) ds)) (eqb (step st (Arrives x) .answer .refusal) 0) (Takes (x .association) (x .parameter) rs)
-        (λ e. record { time = timely .time; early = early-left (h .time) (h .ticks) (isRestart (lineIn (counted h) (x .association) (x .parameter))) (h .uncovered) _ _ rs refl refl (timely .time) (timely .early) })
-        still
-    timely-call (Ticks x) r o =
-        let rs : List Record = recordsIn (step st (Ticks x) .answer) in
-        either (λ (ds : List Deed). Timely (didAll (counted h) ds)) (eqb (step st (Ticks x) .answer .refusal) 0) (Passes (x .time) rs)
-        (λ e.
-        let c = ticks-good x e in
-        record { time = r; early = early-settled (x .time) (ticksAfter h (x .time)) rs (h .uncovered) (older (x .time) r (c .0) (c .2)) })
-        still
-    timely-call (Releases x) r o =
-        let rs : List Record = recordsIn (step st (Releases x) .answer) in
-        either (λ (ds : List Deed). Timely (didAll (counted h) ds)) (eqb (step st (Releases x) .answer .refusal) 0) (Ends (x .association) rs)
-        (λ e. record { time = timely .time; early = early-settled (h .time) (h .ticks) rs (h .uncovered) (timely .early) })
-        still
-    timely-call (Sends x) r o = still
+    -- a time that has come, and a segment that is accepted
+    pass-timely : (time : ℕ) → time < 2 ^ 32 → sound t ≡ true → elapsed time (t .clock) < 2 ^ 31 → (rs : List Record) → Timely (did h (Passes time rs))
+    pass-timely time b good step rs = record { time = b; early = early-settled time (ticksAfter h time) rs (h .uncovered) (older time b good step) }
 
     old-is : (time : ℕ) (l : List Segment) → Early time (ticksAfter h time) l → (anyOf (olds (h .timer) time) (owing l) ≡ true) ↔ isOld (h .timer) (ticksAfter h time) l
     unfolding anyOf
@@ -236,29 +206,78 @@ module _ (st : State) (h : Told) (inv : Inv st h) where
         or-false true q = refl
         or-false false q = q
 
-    clock-timed : (x : Tick) → x .time < 2 ^ 32 → eqb (step st (Ticks x) .answer .refusal) 0 ≡ true → (k : Key)
-        → (lostBy 6 k (recordsIn (step st (Ticks x) .answer)) ≡ true) ↔ isOld (h .timer) (ticksAfter h (x .time)) (h .uncovered k)
+    -- it loses exactly what is T old by then
+    clock-timed : (time : ℕ) → time < 2 ^ 32 → sound t ≡ true → elapsed time (t .clock) < 2 ^ 31 → (k : Key)
+        → (lostBy 6 k (lossesBy (isDue time (t .timer)) 6 (t .places)) ≡ true) ↔ isOld (h .timer) (ticksAfter h time) (h .uncovered k)
     unfolding held
-    clock-timed x b z k =
-        let c = ticks-good x z in
-        let e : lostBy 6 k (recordsIn (step st (Ticks x) .answer)) ≡ anyOf (olds (h .timer) (x .time)) (owing (h .uncovered k)) =
-        ap (lostBy 6 k) (ticks-records x z) ∙ swept-is 6 refl (isDue (x .time) (t .timer)) (olds (t .timer) (x .time)) (st .store) k (λ i p e. refl) 0 (t .places)
-        ∙ ap₂ (λ (m : ℕ) (l : List View). anyOf (olds m (x .time)) l) (inv .agrees .timer) (inv .agrees .exact k) in
-        rw e (old-is (x .time) (h .uncovered k) (older (x .time) b (c .0) (c .2) k))
+    clock-timed time b good step k =
+        let e : lostBy 6 k (lossesBy (isDue time (t .timer)) 6 (t .places)) ≡ anyOf (olds (h .timer) time) (owing (h .uncovered k)) =
+        swept-is 6 refl (isDue time (t .timer)) (olds (t .timer) time) (st .store) k (λ i p e. refl) 0 (t .places)
+        ∙ ap₂ (λ (m : ℕ) (l : List View). anyOf (olds m time) l) (inv .agrees .timer) (inv .agrees .exact k) in
+        rw e (old-is time (h .uncovered k) (older time b good step k))
 
-    -- deeds that are ruled are timed
-    abbrev So : List Deed → Type 0
-    So ds = EachDeed Ruled (counted h) ds → EachDeed Timed (counted h) ds
+take-timely : (h : Told) → Timely h → (association : ℕ) (s : List ℕ) (rs : List Record) → Timely (did h (Takes association s rs))
+take-timely h timely association s rs =
+    record { time = timely .time; early = early-left (h .time) (h .ticks) (isRestart (lineIn h association s)) (h .uncovered) _ _ rs refl refl (timely .time) (timely .early) }
 
-    pub timed-call : (c : Call) → InRange c → isOpening c ≡ false → EachIn Ruled h (seenBy ours st c) → EachIn Timed h (seenBy ours st c)
-    unfolding EachIn deedsOf
-    timed-call (Opens x) r o = absurd (clash refl o)
-    timed-call (Arrives x) r o =
-        either So (eqb (step st (Arrives x) .answer .refusal) 0) _ (λ e d. (line-other 6 (omega arith) (counted h) (x .association) (x .parameter) _ (d .0), tt)) (λ d. tt)
-    timed-call (Ticks x) r o = either So (eqb (step st (Ticks x) .answer .refusal) 0) _ (λ e d. (clock-timed x r e, tt)) (λ d. tt)
-    timed-call (Releases x) r o =
-        either So (eqb (step st (Releases x) .answer .refusal) 0) _ (λ e d. (λ k. lost-other 7 6 refl k (recordsIn (step st (Releases x) .answer)) (d .0), tt)) (λ d. tt)
-    timed-call (Sends x) r o = λ d. tt
+-- CALLS
+module _ (st : State) (h : Told) (inv : Inv st h) (timely : Timely h) where
+  -- the same history, counted
+  still : Timely (counted h)
+  still = record { time = timely .time; early = timely .early }
+
+  now : Inv st (counted h)
+  now = counted-inv st h inv
+
+  -- a time that is accepted
+  steps-good : (x : Arrival) → accepted (wholeOf st x) ≡ true → (sound (st .table) ≡ true) × (elapsed (x .time) (st .table .clock) < 2 ^ 31)
+  steps-good x e =
+      let c = clock-good (st .table) (x .report) (x .time) (clock-accepted (st .table) (st .summary) (x .report) (x .time) (clock-allowed st x e) .own) in
+      (c .0, c .2)
+
+  ticks-good : (x : Tick) → eqb (step st (Ticks x) .answer .refusal) 0 ≡ true → (sound (st .table) ≡ true) × (reportLeast ≤ length (x .report)) × (elapsed (x .time) (st .table .clock) < 2 ^ 31)
+  ticks-good x e = clock-good (st .table) (x .report) (x .time) (clock-accepted (st .table) (st .summary) (x .report) (x .time) (zero-accepted st (Ticks x) (eqb-true _ 0 e)) .own)
+
+  ticks-records : (x : Tick) → eqb (step st (Ticks x) .answer .refusal) 0 ≡ true → recordsIn (step st (Ticks x) .answer) ≡ lossesBy (isDue (x .time) (st .table .timer)) 6 (st .table .places)
+  unfolding step clockWith clockChecksWith
+  ticks-records x e =
+      let c = ticks-good x e in
+      rw (zero-accepted st (Ticks x) (eqb-true _ 0 e))
+      (made-back st h inv (isDue (x .time) (st .table .timer)) (due-open st h inv (x .time) (st .table .timer)) 6 (x .report) (x .time) (c .0) (c .1) (st .summary))
+
+  pub timely-call : (c : Call) → InRange c → isOpening c ≡ false → Timely (after h (seenBy ours st c))
+  unfolding after deedsOf
+  timely-call (Opens x) r o = absurd (clash refl o)
+  timely-call (Arrives x) r o =
+      let passed : accepted (wholeOf st x) ≡ true → Timely (told st h inv x) = λ e. let c = steps-good x e in pass-timely st (counted h) now still (x .time) (r .0) (c .0) (c .1) (timedOut st h inv x) in
+      arrival-left st h inv x (r .1) (λ (st : State) (ds : List Deed). Timely (didAll (counted h) ds)) still passed (λ e f. take-timely (told st h inv x) (passed e) (x .association) (x .parameter) (effect (clockedBy st x) (told st h inv x) (inv-later st h inv x) x .records))
+  timely-call (Ticks x) r o =
+      either (λ (ds : List Deed). Timely (didAll (counted h) ds)) (eqb (step st (Ticks x) .answer .refusal) 0) (Passes (x .time) (recordsIn (step st (Ticks x) .answer)))
+      (λ e. let c = ticks-good x e in pass-timely st (counted h) now still (x .time) r (c .0) (c .2) (recordsIn (step st (Ticks x) .answer))) still
+  timely-call (Releases x) r o =
+      let rs : List Record = recordsIn (step st (Releases x) .answer) in
+      either (λ (ds : List Deed). Timely (didAll (counted h) ds)) (eqb (step st (Releases x) .answer .refusal) 0) (Ends (x .association) rs)
+      (λ e. record { time = timely .time; early = early-settled (h .time) (h .ticks) rs (h .uncovered) (timely .early) })
+      still
+  timely-call (Sends x) r o = still
+
+  -- deeds that are ruled are timed
+  abbrev So : List Deed → Type 0
+  So ds = EachDeed Ruled (counted h) ds → EachDeed Timed (counted h) ds
+
+  pub timed-call : (c : Call) → InRange c → isOpening c ≡ false → EachIn Ruled h (seenBy ours st c) → EachIn Timed h (seenBy ours st c)
+  unfolding EachIn deedsOf
+  timed-call (Opens x) r o = absurd (clash refl o)
+  timed-call (Arrives x) r o =
+      let passed : accepted (wholeOf st x) ≡ true → Timed (counted h) (Passes (x .time) (timedOut st h inv x)) = λ e. let c = steps-good x e in clock-timed st (counted h) now still (x .time) (r .0) (c .0) (c .1) in
+      arrival-left st h inv x (r .1) (λ (st : State) (ds : List Deed). So ds) (λ d. tt) (λ e d. (passed e, tt))
+      (λ e f d. (passed e, (line-other 6 (omega arith) (told st h inv x) (x .association) (x .parameter) _ (d .1 .0), tt)))
+  timed-call (Ticks x) r o =
+      either So (eqb (step st (Ticks x) .answer .refusal) 0) _
+      (λ e d. let c = ticks-good x e in (rw (ticks-records x e) (clock-timed st (counted h) now still (x .time) r (c .0) (c .2)), tt)) (λ d. tt)
+  timed-call (Releases x) r o =
+      either So (eqb (step st (Releases x) .answer .refusal) 0) _ (λ e d. (λ k. lost-other 7 6 refl k (recordsIn (step st (Releases x) .answer)) (d .0), tt)) (λ d. tt)
+  timed-call (Sends x) r o = λ d. tt
 
 pub record Timing (st : State) (h : Told) : Type 0 where
   pub inv : Inv st h

@@ -26,7 +26,7 @@ use Rattle.rules.proofs.Seats.{seats-of}
 use Rattle.rules.proofs.Answers.{segment-accepted}
 use Rattle.demands.specs.Machine.{ours, isOpening, All, InRange, SoundSummary}
 use Rattle.demands.specs.Seen.{Seen, seenBy}
-use Rattle.demands.specs.History.{Segment, Taken, Cover, Told, Takes, joined, filed, coversOf, keyIn, segmentIn, lineIn, isRestart, arrived, coversIn, coverOf, did, deedsOf, counted, after}
+use Rattle.demands.specs.History.{Segment, Taken, Cover, Told, Takes, joined, filed, coversOf, keyIn, segmentIn, lineIn, isRestart, arrived, coversIn, coverOf, did, deedsOf, after}
 use Rattle.demands.specs.Demand3.{Ending, endingOf, endingsOf, Ruled, Counted, Fair}
 use Rattle.demands.specs.Totals.{isAmong, withOne, associationsFrom, segmentsTaken, octetsTaken, isBilled, segmentsCovered, octetsCovered, totalsOf, Totals}
 use Rattle.demands.proofs.Columns.{each-column, zeros-at, are-columns}
@@ -214,20 +214,27 @@ pub record Counting (st : State) (h : Told) : Type 0 where
   pub sound : SoundSummary st
   pub counts : Counts (st .summary) h
 
-module _ (st : State) (h : Told) (w : Counting st h) where
-  takes : Took st h (w .inv) (λ (st : State) (h : Told). Counts (st .summary) h)
-  unfolding segmentSums
-  takes x e ruled fair =
-      takes-counts (st .summary) (counted h) (w .counts) (x .association) (x .parameter) (effect st h (w .inv) x .records) _ (rw (w .inv .agrees .registry))
-      (segment-accepted (st .table) (st .summary) (st .store) (x .report) (x .association) (x .parameter) e .1 .row) ruled fair
+abbrev CountsIn : State → Told → Type 0
+CountsIn st h = Counts (st .summary) h
 
-  sweeps : Swept st h (w .inv) (λ (st : State) (h : Told). Counts (st .summary) h)
-  sweeps test opens cause clock time ticks fair =
-      swept-counts (st .summary) h (w .counts) (lossesBy test cause (st .table .places)) fair
-      (losses-billable (st .summary) h (w .counts) test opens cause (st .table .places) (seats-of (st .summary) (st .table .places) (w .sound .sound)))
+takes : Took CountsIn
+unfolding segmentSums
+takes st h inv sums c x e ruled fair =
+    takes-counts (st .summary) h c (x .association) (x .parameter) (effect st h inv x .records) _ (rw (inv .agrees .registry))
+    (segment-accepted (st .table) (st .summary) (st .store) (x .report) (x .association) (x .parameter) e .1 .row) ruled fair
 
-  pub counting-call : (c : Call) → InRange c → isOpening c ≡ false → Counting (step st c .state) (after h (seenBy ours st c))
-  counting-call c r o = record { inv = inv-call st h (w .inv) c r o; sound = summary-kept st c o r (w .sound); counts = call-by st h (w .inv) (λ (st : State) (h : Told). Counts (st .summary) h) takes sweeps (w .counts) c r o }
+sweeps : Swept CountsIn
+sweeps st h inv sums c test opens cause clock time ticks fair =
+    swept-counts (st .summary) h c (lossesBy test cause (st .table .places)) fair
+    (losses-billable (st .summary) h c test opens cause (st .table .places) (seats-of (st .summary) (st .table .places) (sums .sound)))
+
+pub counting-call : (st : State) (h : Told) → Counting st h → (c : Call) → InRange c → isOpening c ≡ false → Counting (step st c .state) (after h (seenBy ours st c))
+counting-call st h w c r o =
+    record {
+      inv = inv-call st h (w .inv) c r o;
+      sound = summary-kept st c o r (w .sound);
+      counts = call-by CountsIn takes sweeps (λ st h c. c) st h (w .inv) (w .sound) (w .counts) c r o;
+    }
 
 empty-rowed : Rowed emptySummary [] [] []
 unfolding emptySummary

@@ -4,7 +4,7 @@ use mathlib.Core.Path.{_≡_, refl, _∙_}
 use mathlib.Core.Bool.{Bool, true, false}
 use mathlib.Core.List.{List, [], _∷_, map}
 use native.Mathlib.Omega.{arith}
-use lib.ListN.{length, take, drop, set, replicate, length-append, length-replicate, length-set, length-take, length-map}
+use lib.ListN.{length, set, replicate, length-set, length-map}
 use Rattle.rules.specs.General.{if_then_else_}
 use Rattle.rules.specs.Numbers.{placeCount, addressMost}
 use Rattle.rules.specs.Layout.{fieldsOf}
@@ -12,8 +12,8 @@ use Rattle.rules.specs.Places.{freePlace, putPlace}
 use Rattle.rules.specs.Opening.{emptyTable}
 use Rattle.rules.specs.Registry.{entriesOf}
 use Rattle.rules.specs.Receiving.{keyOf, effectOf, Reception}
-use Rattle.rules.specs.Sweep.{freedBy, Sweeping, sweep}
-use Rattle.rules.specs.Calls.{State, Call, Opens, Arrives, Ticks, Releases, Sends, toOpen, step}
+use Rattle.rules.specs.Sweep.{freedBy, Sweeping, sweep, isDue}
+use Rattle.rules.specs.Calls.{State, Arrival, Call, Opens, Arrives, Ticks, Releases, Sends, toOpen, step}
 use Rattle.rules.specs.declared.Entry.{Entry}
 use Rattle.rules.specs.declared.Key.{Key}
 use Rattle.rules.specs.declared.Place.{Place}
@@ -28,7 +28,8 @@ use Rattle.rules.proofs.Answers.{opened-by, segment-by, segment-accepted, clock
 use Rattle.rules.proofs.Reading.{origin-short, destination-short}
 use Rattle.rules.proofs.Records.{filled-key}
 use Rattle.rules.proofs.Arrived.{arrived}
-use Rattle.demands.specs.Machine.{All, InRange, TypedPlace, Typed}
+use Rattle.demands.specs.Machine.{clockedBy, All, InRange, TypedPlace, Typed}
+use Rattle.demands.proofs.Parts.{segmented, arrival-state}
 
 -- places as their types say
 abbrev TypedPlaces : List Place → Type 0
@@ -88,10 +89,8 @@ unfolding step
 typed-opened st registry timer time =
     opened-by (λ (o : Opened). Typed (o .table)) registry timer time (λ e. empty-typed (entriesOf registry) timer time) (λ e. empty-typed [] 0 0)
 
-pub typed-kept : (st : State) (c : Call) → Typed (st .table) → InRange c → Typed (step st c .state .table)
-unfolding step
-typed-kept st (Opens x) h r = typed-opened st (x .registry) (x .timer) (x .time)
-typed-kept st (Arrives x) h r =
+segment-typed : (st : State) (x : Arrival) → x .association < 2 ^ 16 → Typed (st .table) → Typed (segmented st x .state .table)
+segment-typed st x r h =
     let s : List ℕ = x .parameter in
     segment-by (st .table) (st .summary) (st .store) (x .report) (x .association) s (λ (o : Reception). Typed (o .answer .table))
     (λ e.
@@ -101,6 +100,14 @@ typed-kept st (Arrives x) h r =
     let all = effect-typed _ (st .table) (st .store) _ _ _ _ _ _ new (h .count, h .each) in
     record { count = all .0; each = all .1 })
     (λ e. h)
+
+pub clocked-typed : (st : State) (x : Arrival) → Typed (st .table) → Typed (clockedBy st x .table)
+clocked-typed st x h = sweep-typed (isDue (x .time) (st .table .timer)) 6 (x .time) (st .table) (x .report) h
+
+pub typed-kept : (st : State) (c : Call) → Typed (st .table) → InRange c → Typed (step st c .state .table)
+unfolding step
+typed-kept st (Opens x) h r = typed-opened st (x .registry) (x .timer) (x .time)
+typed-kept st (Arrives x) h r = arrival-state st x (λ (st : State). Typed (st .table)) h (λ e. clocked-typed st x h) (λ e f. segment-typed (clockedBy st x) x (r .1) (clocked-typed st x h))
 typed-kept st (Ticks x) h r =
     clock-by (st .table) (st .summary) (x .report) (x .time) (λ (o : Sweeping). Typed (o .answer .table)) (λ e. sweep-typed _ 6 (x .time) (st .table) (x .report) h) (λ e. h)
 typed-kept st (Releases x) h r =

@@ -1,31 +1,42 @@
--- DEMAND 1. Every call ends with an answer for every input. Bad input gets a numbered refusal, and a refused call changes neither the table nor any lent octet.
+-- DEMAND 1. Every call ends with an answer for every input. Bad input gets a numbered refusal, and a refused call changes neither the table nor any lent octet. Of an arrival that is refused
+-- for its segment alone (document 02, A6), the segment changes nothing, and the call leaves and reports what the clock's call leaves and reports.
 use mathlib.Core.Path.{_≡_}
 use mathlib.Core.Bool.{false}
 use mathlib.Core.List.{[]}
+use Rattle.rules.specs.General.{if_then_else_}
 use Rattle.rules.specs.Refusals.{accepted, first, firstAt}
 use Rattle.rules.specs.Opening.{unopened}
 use Rattle.rules.specs.Summary.{emptySummary}
-use Rattle.rules.specs.Calls.{State, stateOf, Call, Opens, Arrives, Ticks, Releases, Sends, Answer, refusing}
+use Rattle.rules.specs.Arrival.{stands}
+use Rattle.rules.specs.Calls.{State, stateOf, Call, Opens, Arrives, Ticks, Releases, Sends, toTick, answering, Answer, refusedAs, refusing, Outcome, step}
 use Rattle.rules.specs.declared.Fault.{Fault}
 use Rattle.demands.specs.Machine.{Machine, checksOf}
 use Rattle.demands.specs.Seen.{Seen, seenBy}
 
--- the state after a refusal: as it came, all 512 numbers of the summary too; of an opening, the unopened table and all 512 zero
-abbrev pub refusedState : State → Call → State
-refusedState st (Opens x) = stateOf unopened emptySummary (st .store)
-refusedState st (Arrives x) = st
-refusedState st (Ticks x) = st
-refusedState st (Releases x) = st
-refusedState st (Sends x) = st
+-- a call as it is when it is refused: nothing but its number and position is answered (no record, no count, no length), every lent octet is as it was, and so is the state
+abbrev pub unmoved : State → Call → Fault → Outcome
+unmoved st c e = record { answer = refusing e c; state = st }
+
+-- a refusal beside what another call did: its records, its report and the state that it left
+abbrev pub besideCall : Call → Fault → Outcome → Outcome
+besideCall c e o = record { answer = answering e (o .answer .records) (o .answer .records) (refusedAs c) (o .answer .lent); state = o .state }
+
+-- what is left where a call is refused; of an opening, the unopened table and all 512 numbers of the summary zero
+abbrev pub refusedOutcome : State → Call → Fault → Outcome
+refusedOutcome st (Opens x) e = record { answer = refusing e (Opens x); state = stateOf unopened emptySummary (st .store) }
+refusedOutcome st (Arrives x) e = if stands (e .number) then besideCall (Arrives x) e (step st (toTick (x .time) (x .report))) else unmoved st (Arrives x) e
+refusedOutcome st (Ticks x) e = unmoved st (Ticks x) e
+refusedOutcome st (Releases x) e = unmoved st (Releases x) e
+refusedOutcome st (Sends x) e = unmoved st (Sends x) e
 
 -- an answer's refusal and position
 abbrev pub faultIn : Answer → Fault
 faultIn a = record { number = a .refusal; position = a .position }
 
--- a refused call: nothing but its number and position is answered (no record, no count, no length), every lent octet is as it was, and nothing is handed over
+-- .. and nothing is handed over
 pub record Untouched (x : Seen) : Type 0 where
-  pub state : x .left ≡ refusedState (x .before) (x .call)
-  pub answer : x .answer ≡ refusing (faultIn (x .answer)) (x .call)
+  pub state : x .left ≡ refusedOutcome (x .before) (x .call) (faultIn (x .answer)) .state
+  pub answer : x .answer ≡ refusedOutcome (x .before) (x .call) (faultIn (x .answer)) .answer
   pub handed : x .handed ≡ []
 
 -- the number is that of the first check in the paper's order that applies, and 0 exactly where none does; the position is that check's, and nowhere where none does

@@ -1,7 +1,7 @@
 -- DEMAND 3. From one opening, refused or not, until the next, through any calls made with the table and store as the last call left them.
 use Prim.Native.Nat.{ℕ, suc}
 use mathlib.Core.Path.{_≡_}
-use mathlib.Core.Bool.{true, false}
+use mathlib.Core.Bool.{true}
 use mathlib.Core.List.{List, [], _∷_, _++_, map}
 use lib.Dec.{eqb}
 use lib.ListN.{length, take, drop}
@@ -17,7 +17,7 @@ use Rattle.rules.specs.declared.Place.{Place}
 use Rattle.rules.specs.declared.Record.{Record}
 use Rattle.rules.specs.declared.Line.{Line}
 use Rattle.rules.specs.declared.Line.the-variants.{Unsegmented, Broken, Restart, Start, Final, Next}
-use Rattle.demands.specs.Machine.{Machine, isOpening, All}
+use Rattle.demands.specs.Machine.{Machine, All}
 use Rattle.demands.specs.Seen.{Seen}
 use Rattle.demands.specs.History.{Segment, Told, Cover, Deed, Begins, Takes, Passes, Ends, joined, lastRemaining, recordsIn, deedsOf, keyIn, lineIn, recordsBy, after, covers, EachIn, Meets}
 
@@ -120,14 +120,14 @@ pub record Agrees (st : State) (h : Told) : Type 0 where
   pub clock : st .table .clock ≡ h .time
 
 -- at a call: every record is of a deed, is the rules', and is fair to what it covers; what is handed over is what the Delivered ones cover; the state that it leaves is what the
--- history tells; and a refused call, unless an opening, leaves the state as it was
+-- history tells; and a call that does nothing leaves the state as it was
 pub record Accounted (h : Told) (x : Seen) : Type 0 where
   pub recorded : recordsIn (x .answer) ≡ recordsBy (deedsOf (x .call) (x .answer))
   pub ruled : EachIn Ruled h x
   pub fair : All Fair (covers h x)
   pub handed : x .handed ≡ owed (covers h x)
   pub agrees : Agrees (x .left) (after h x)
-  pub unmoved : (x .answer .refusal ≡ 0 → ⊥) → isOpening (x .call) ≡ false → x .left ≡ x .before
+  pub unmoved : deedsOf (x .call) (x .answer) ≡ [] → x .left ≡ x .before
 
 abbrev pub Demand3 : Machine → Type 0
 Demand3 m = Meets Accounted m

@@ -6,7 +6,6 @@ use mathlib.Core.Bool.{true, false}
 use mathlib.Core.List.{List, [], _∷_}
 use lib.ListN.{length, take, drop, getD}
 use Rattle.rules.specs.Numbers.{placeStart, elapsed}
-use Rattle.rules.specs.Records.{recordLength}
 use Rattle.rules.specs.Places.{noPlace, placeOf, isAt}
 use Rattle.rules.specs.Soundness.{sound}
 use Rattle.rules.specs.Sending.{firstCarries, laterCarries}
@@ -14,11 +13,11 @@ use Rattle.rules.specs.Calls.{State}
 use Rattle.rules.specs.declared.Key.{Key}
 use Rattle.rules.specs.declared.Place.{Place}
 use Rattle.rules.specs.declared.Found.the-variants.{At}
-use Rattle.demands.specs.Machine.{CanCount, Typed, SoundSummary}
+use Rattle.demands.specs.Machine.{Typed, SoundSummary}
 use Rattle.demands.specs.Seen.{Seen}
 use Rattle.demands.specs.History.{Segment, Told, EachIn, after}
 use Rattle.demands.specs.Demand1.{Answered}
-use Rattle.demands.specs.Demand2.{Shipment, Sender, Sendable, IsSent, header, countIn, segmentedIn, sendingOf, arrivalOf, keyIn, Spares, Saves, BeginsAs, Returns, Ready, CanTake}
+use Rattle.demands.specs.Demand2.{Shipment, Sender, Sendable, IsSent, header, countIn, segmentedIn, sendingOf, Slot, arrivalOf, Comes, keyIn, Spares, Saves, BeginsAs, Returns, Ready, placeAfter, CanTake}
 use Rattle.demands.specs.Demand3.{Agrees, Accounted}
 use Rattle.demands.specs.Timer.{Timed}
 use Rattle.demands.specs.Release.{Released}
@@ -71,10 +70,10 @@ CanBeSent x = (k : ℕ) → k < countIn x → (a : Sender) × Sendable x a k
 
 -- demand 2 of one arrival: alone, the first of several, a later one
 pub record Arrives (y : Seen) (x : Shipment) : Type 0 where
-  pub alone : segmentedIn x ≡ false → Ready x (y .before) → CanCount (y .before) (y .call) → (report : List ℕ) → recordLength ≤ length report → y .call ≡ arrivalOf x 0 report → Returns x y
-  pub first : segmentedIn x ≡ true → Ready x (y .before) → CanTake x (y .before) → CanCount (y .before) (y .call) → (report : List ℕ) → recordLength ≤ length report → y .call ≡ arrivalOf x 0 report
-      → BeginsAs (y .answer) (placeOf (keyIn x) (y .before .table .places)) (isAt (placeOf (keyIn x) (y .before .table .places))) × Underway x 1 (y .left)
-  pub later : segmentedIn x ≡ true → (j : ℕ) → 1 ≤ j → j < countIn x → Underway x j (y .before) → CanCount (y .before) (y .call) → (report : List ℕ) → recordLength ≤ length report → y .call ≡ arrivalOf x j report
+  pub alone : segmentedIn x ≡ false → Ready x (y .before) → (at : Slot) → Comes x (y .before) 0 at → y .call ≡ arrivalOf x 0 at → Returns x y
+  pub first : segmentedIn x ≡ true → Ready x (y .before) → (at : Slot) → Comes x (y .before) 0 at → CanTake x (y .before) at → y .call ≡ arrivalOf x 0 at
+      → BeginsAs (y .answer) (placeAfter x (y .before) at) (isAt (placeAfter x (y .before) at)) × Underway x 1 (y .left)
+  pub later : segmentedIn x ≡ true → (j : ℕ) → 1 ≤ j → j < countIn x → Underway x j (y .before) → (at : Slot) → Comes x (y .before) j at → y .call ≡ arrivalOf x j at
       → (suc j < countIn x → Saves (y .answer) × Underway x (suc j) (y .left)) × (suc j ≡ countIn x → Returns x y)
 
 -- demand 2 of a call: what is sent, what arrives, and what is spared

@@ -65,7 +65,7 @@ pub record OfRequest (q : Request) : Type 0 where
 
 abbrev pub OfCall : Call → Type 0
 OfCall (Opens x) = Octets (x .registry) × Bits 32 (x .timer) × Bits 32 (x .time)
-OfCall (Arrives x) = Bits 16 (x .association) × Octets (x .parameter) × Octets (x .report)
+OfCall (Arrives x) = Bits 32 (x .time) × Bits 16 (x .association) × Octets (x .parameter) × Octets (x .report)
 OfCall (Ticks x) = Bits 32 (x .time) × Octets (x .report)
 OfCall (Releases x) = Bits 16 (x .association) × Octets (x .report)
 OfCall (Sends x) = OfRequest (x .request) × Octets (x .origin) × Octets (x .destination) × Octets (x .whole) × Octets (x .area)

@@ -72,9 +72,9 @@ pub record OneForm (m : Machine) : Type 0 where
       → contextOf (x .parameter) ≡ contextOf (x′ .parameter) → contextPart (x .parameter) ≡ contextPart (x′ .parameter)
 
 -- document 02, A5: a segment's position names the octet at fault, by its number, and no other call has one. What is refused for such an octet alone is refused alike whatever
--- stands behind it, at any state with that registry, unless the state or a lent area is refused first
+-- stands behind it, at any state with that registry, unless the state, a lent area, the time or its clock work is refused first
 abbrev pub isBefore : ℕ → Bool
-isBefore n = eqb n 1 || eqb n 2 || eqb n 3
+isBefore n = eqb n 1 || eqb n 2 || eqb n 3 || eqb n 13 || eqb n 22
 
 pub record Pointing (m : Machine) : Type 0 where
   pub blamed : (st : State) (x : Arrival) → Blamed (x .parameter) (faultIn (m .step st (Arrives x) .answer))

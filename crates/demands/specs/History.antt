@@ -1,18 +1,19 @@
 -- What was accepted and what records cover of it, told from the calls, their answers and the octets of the reports alone: it never sees the table or the store.
-use Prim.Native.Nat.{ℕ, _+_}
+use Prim.Native.Nat.{ℕ, _+_, _-_, _*_}
 use mathlib.Core.Bool.{Bool, true, false, not}
 use mathlib.Core.List.{List, [], _∷_, _++_}
 use lib.Dec.{eqb}
-use lib.ListN.{length}
+use lib.ListN.{length, drop}
 use Rattle.rules.specs.General.{if_then_else_}
 use Rattle.rules.specs.Numbers.{elapsed}
 use Rattle.rules.specs.Registry.{entriesOf}
 use Rattle.rules.specs.Layout.{fieldsOf}
-use Rattle.rules.specs.Records.{recordsFrom}
+use Rattle.rules.specs.Records.{recordLength, recordsFrom}
 use Rattle.rules.specs.Places.{sameKey}
 use Rattle.rules.specs.Receiving.{keyOf, informationOf, lineOf}
 use Rattle.rules.specs.Opening.{registryWith}
-use Rattle.rules.specs.Calls.{Call, Opens, Arrives, Ticks, Releases, Sends, Opening, Answer}
+use Rattle.rules.specs.Arrival.{stands}
+use Rattle.rules.specs.Calls.{Call, Opens, Arrives, Ticks, Releases, Sends, Opening, Arrival, Answer}
 use Rattle.rules.specs.declared.Entry.{Entry}
 use Rattle.rules.specs.declared.Key.{Key}
 use Rattle.rules.specs.declared.Fields.{Fields}
@@ -88,7 +89,8 @@ coversOf h [] = []
 coversOf h (r ∷ rs) = record { made = r; segments = h (r .key) } ∷ coversOf (filed h (r .key) []) rs
 
 -- A CALL IS A LIST OF DEEDS, each with the records that are its own: an opening and whether it is accepted, a segment accepted (association, parameter), a time that has come,
--- an association that has ended. Today each call is one; a refused one is none, but for an opening.
+-- an association that has ended. An arrival is two (document 02, A6): its time comes, and then its segment is accepted; where the segment alone is refused, it is the first of them. A
+-- call that is refused as a whole is none, but for an opening.
 pub data Deed : Type 0 where
   Begins : Opening → Bool → Deed
   Takes : ℕ → List ℕ → List Record → Deed
@@ -99,9 +101,21 @@ pub data Deed : Type 0 where
 abbrev pub recordsIn : Answer → List Record
 recordsIn a = recordsFrom (a .records) (a .lent .report)
 
+-- of an arrival's, those of its clock work, which stand first, and those of its segment
+abbrev pub timeoutsIn : Answer → List Record
+timeoutsIn a = recordsFrom (a .timeouts) (a .lent .report)
+
+abbrev pub ownIn : Answer → List Record
+ownIn a = recordsFrom (a .records - a .timeouts) (drop (a .timeouts * recordLength) (a .lent .report))
+
+abbrev pub arrivalDeeds : Arrival → Answer → List Deed
+arrivalDeeds x a =
+    if eqb (a .refusal) 0 then Passes (x .time) (timeoutsIn a) ∷ Takes (x .association) (x .parameter) (ownIn a) ∷ [] else
+    if stands (a .refusal) then Passes (x .time) (timeoutsIn a) ∷ [] else []
+
 unfoldable pub deedsOf : Call → Answer → List Deed
 deedsOf (Opens x) a = Begins x (eqb (a .refusal) 0) ∷ []
-deedsOf (Arrives x) a = if eqb (a .refusal) 0 then Takes (x .association) (x .parameter) (recordsIn a) ∷ [] else []
+deedsOf (Arrives x) a = arrivalDeeds x a
 deedsOf (Ticks x) a = if eqb (a .refusal) 0 then Passes (x .time) (recordsIn a) ∷ [] else []
 deedsOf (Releases x) a = if eqb (a .refusal) 0 then Ends (x .association) (recordsIn a) ∷ [] else []
 deedsOf (Sends x) a = []

@@ -13,4 +13,3 @@ pub mod Demanded
 pub mod Exchanges
 pub mod Replayed
 pub mod Totals
-pub mod Wrong

@@ -9,9 +9,11 @@ use Rattle.rules.specs.Records.{FilledKey}
 use Rattle.rules.specs.Refusals.{Check, accepted}
 use Rattle.rules.specs.Delivery.{delivery}
 use Rattle.rules.specs.Opening.{openingChecks}
-use Rattle.rules.specs.Summary.{summaryLength, summarySound, rowChecks, totalChecks, segmentSums, segmentChecksWith, clockChecksWith, releaseChecksWith}
+use Rattle.rules.specs.Sweep.{Sweeping}
+use Rattle.rules.specs.Summary.{Counted, summaryLength, summarySound, rowChecks, clockChecksWith, releaseChecksWith}
+use Rattle.rules.specs.Arrival.{clockWork, tableAfter, wholeChecks, bothChecks, arrivalChecks}
 use Rattle.rules.specs.Sending.{sendingChecks}
-use Rattle.rules.specs.Calls.{State, Call, Opens, Arrives, Ticks, Releases, Sends, Outcome, step}
+use Rattle.rules.specs.Calls.{State, stateOf, Arrival, Call, Opens, Arrives, Ticks, Releases, Sends, Outcome, step}
 use Rattle.rules.specs.declared.Place.{Place}
 use Rattle.rules.specs.declared.Table.{Table}
 use Rattle.rules.specs.declared.Decision.{Decision}
@@ -27,16 +29,25 @@ ours = record { step = step; deliver = delivery }
 -- the checks of a call, in the paper's order
 abbrev pub checksOf : State → Call → List Check
 checksOf st (Opens x) = openingChecks (x .registry) (x .timer)
-checksOf st (Arrives x) = segmentChecksWith (st .table) (st .summary) (st .store) (x .report) (x .association) (x .parameter)
+checksOf st (Arrives x) = arrivalChecks (st .table) (st .summary) (st .store) (x .report) (x .time) (x .association) (x .parameter)
 checksOf st (Ticks x) = clockChecksWith (st .table) (st .summary) (x .report) (x .time)
 checksOf st (Releases x) = releaseChecksWith (st .table) (st .summary) (x .report) (x .association)
 checksOf st (Sends x) = sendingChecks (st .table) (x .request) (x .origin) (x .destination) (x .whole) (x .area)
 
--- the last of them, for an arrival: 21 and 22
+-- an arrival's clock work, the state that it leaves, and the checks of the whole: where they accept, the time is accepted and that work is done
+abbrev pub clockOf : State → Arrival → Counted Sweeping
+clockOf st x = clockWork (st .table) (st .summary) (x .report) (x .time)
+
+abbrev pub clockedBy : State → Arrival → State
+clockedBy st x = stateOf (tableAfter (clockOf st x)) (clockOf st x .summary) (st .store)
+
+abbrev pub wholeOf : State → Arrival → List Check
+wholeOf st x = wholeChecks (st .table) (st .summary) (st .store) (x .report) (x .time)
+
+-- the last checks of an arrival: 21 and 22, of its segment
 abbrev pub countingChecks : State → Call → List Check
 countingChecks st (Opens x) = []
-countingChecks st (Arrives x) =
-    rowChecks (st .summary) (x .association) ++ totalChecks (st .summary) (segmentSums (st .table) (st .summary) (st .store) (x .report) (x .association) (x .parameter))
+countingChecks st (Arrives x) = rowChecks (clockOf st x .summary) (x .association) ++ bothChecks (clockOf st x) (st .store) (x .association) (x .parameter)
 countingChecks st (Ticks x) = []
 countingChecks st (Releases x) = []
 countingChecks st (Sends x) = []
@@ -75,7 +86,7 @@ All P (x ∷ l) = P x × All P l
 -- what the types of a call's numbers say
 abbrev pub InRange : Call → Type 0
 InRange (Opens x) = x .time < 2 ^ 32
-InRange (Arrives x) = x .association < 2 ^ 16
+InRange (Arrives x) = (x .time < 2 ^ 32) × (x .association < 2 ^ 16)
 InRange (Ticks x) = x .time < 2 ^ 32
 InRange (Releases x) = x .association < 2 ^ 16
 InRange (Sends x) = Unit {0}

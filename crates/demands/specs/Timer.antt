@@ -1,4 +1,4 @@
--- THE TIMER. A sequence is lost with cause 6 exactly at the first accepted clock call at which its true age is T or more.
+-- THE TIMER. A sequence is lost with cause 6 exactly at the first accepted clock work, of a clock call or of an arrival, at which its true age is T or more.
 use Prim.Native.Nat.{ℕ, _+_, _-_, _≤_}
 use mathlib.Core.Path.{_≡_}
 use mathlib.Core.Logic.{_↔_}
@@ -24,7 +24,7 @@ abbrev pub isOld : ℕ → ℕ → List Segment → Type 0
 isOld timer ticks [] = ⊥
 isOld timer ticks (x ∷ l) = timer ≤ ticks - x .ticks
 
--- the ticks after a clock call
+-- the ticks after a time that has come
 abbrev pub ticksAfter : Told → ℕ → ℕ
 ticksAfter h time = h .ticks + elapsed time (h .time)
 

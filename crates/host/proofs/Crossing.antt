@@ -7,5 +7,5 @@ use Rattle.host.specs.Promises.{crossing}
 
 -- an answer crosses with its decision as numbers
 pub crosses : (r want : Received) (o : CDecision) → r ≡ want → o ≡ cDecisionOf (r .decision)
-    → record { table = r .table; decision = o; refusal = r .refusal; records = r .records; position = r .position } ≡ crossing want
+    → record { table = r .table; decision = o; refusal = r .refusal; records = r .records; position = r .position; timeouts = r .timeouts } ≡ crossing want
 crosses r want o e f = rw f (ap crossing e)

@@ -8,7 +8,7 @@ use rules::Sent;
 use rules::Swept;
 use rules::Table;
 ghost use Rattle.rules.specs.Promises.{OfOpening, OfClock, OfRelease, OfSending};
-ghost use Rattle.host.specs.Promises.{HostSegment, HostDelivery};
+ghost use Rattle.host.specs.Promises.{HostArrival, HostDelivery};
 
 #[repr(C)]
 pub struct CReceived {
@@ -17,11 +17,12 @@ pub struct CReceived {
     pub refusal: u8,
     pub records: u8,
     pub position: u16,
+    pub timeouts: u8,
 }
 
 // Opens a table from registry octets, T and the clock, and empties the summary.
 #[no_mangle]
-pub extern "C" fn egrynnol_3_opening(
+pub extern "C" fn egrynnol_4_opening(
     m: &mut [u64; rules::SUMMARY],
     registry: &[u8],
     timer: u32,
@@ -32,19 +33,20 @@ pub extern "C" fn egrynnol_3_opening(
     opening::opening(m, registry, timer, clock)
 }
 
-// A segment arrives.
+// A segment arrives at a time: the clock's work, and then the segment's.
 #[no_mangle]
-pub extern "C" fn egrynnol_3_segment(
+pub extern "C" fn egrynnol_4_arrival(
     t: Table,
     m: &mut [u64; rules::SUMMARY],
     store: &mut [u8],
     report: &mut [u8],
+    time: u32,
     association: u16,
     s: &[u8],
 ) -> CReceived
-    ensures { λ r. ⌜ HostSegment t (now (m .entry)) (now (store .entry)) (now (report .entry)) association (now (s .entry)) r (now (m .exit)) (now (store .exit)) (now (report .exit)) ⌝ }
+    ensures { λ r. ⌜ HostArrival t (now (m .entry)) (now (store .entry)) (now (report .entry)) time association (now (s .entry)) r (now (m .exit)) (now (store .exit)) (now (report .exit)) ⌝ }
 {
-    let r = receiver::segment(t, m, store, report, association, s);
+    let r = receiver::arrival(t, m, store, report, time, association, s);
     let table = r.table;
     let decision = r.decision;
     CReceived {
@@ -53,12 +55,13 @@ pub extern "C" fn egrynnol_3_segment(
         refusal: r.refusal,
         records: r.records,
         position: r.position,
+        timeouts: r.timeouts,
     }
 }
 
 // The clock goes on.
 #[no_mangle]
-pub extern "C" fn egrynnol_3_clock(
+pub extern "C" fn egrynnol_4_clock(
     t: Table,
     m: &mut [u64; rules::SUMMARY],
     report: &mut [u8],
@@ -71,7 +74,7 @@ pub extern "C" fn egrynnol_3_clock(
 
 // An association is released.
 #[no_mangle]
-pub extern "C" fn egrynnol_3_release(
+pub extern "C" fn egrynnol_4_release(
     t: Table,
     m: &mut [u64; rules::SUMMARY],
     report: &mut [u8],
@@ -84,7 +87,7 @@ pub extern "C" fn egrynnol_3_release(
 
 // Where the octets are that a segment delivered.
 #[no_mangle]
-pub extern "C" fn egrynnol_3_delivery<'a>(
+pub extern "C" fn egrynnol_4_delivery<'a>(
     decision: CDecision,
     s: &'a [u8],
     store: &'a [u8],
@@ -98,7 +101,7 @@ pub extern "C" fn egrynnol_3_delivery<'a>(
 
 // Writes one segment of the data.
 #[no_mangle]
-pub extern "C" fn egrynnol_3_sending(
+pub extern "C" fn egrynnol_4_sending(
     t: Table,
     q: Request,
     origin: &[u8],

@@ -4,7 +4,8 @@ use mathlib.Core.Path.{_≡_}
 use mathlib.Core.List.{List, []}
 use lib.ListN.{take}
 use Rattle.rules.specs.Receiving.{Reception}
-use Rattle.rules.specs.Summary.{Counted, segmentWith}
+use Rattle.rules.specs.Summary.{Counted}
+use Rattle.rules.specs.Arrival.{arrival}
 use Rattle.rules.specs.Sending.{Sending, sending}
 use Rattle.rules.specs.Calls.{State, stateOf, Lent, lending}
 use Rattle.rules.specs.declared.Table.{Table}
@@ -33,12 +34,12 @@ pub record Lap : Type 0 where
   pub decision : Decision
   pub length : ℕ
 
--- segment k is cut, and received
+-- segment k is cut, and received at the table's own time
 abbrev pub lap : Asked → ℕ → Lap → Lap
 lap x k l =
     let o : Sending = sending (x .table) (numbered (x .request) k) (x .origin) (x .destination) (x .whole) (l .lent .area) in
     let r : Counted Reception
-    = segmentWith (l .state .table) (l .state .summary) (l .state .store) (l .lent .report) (x .association) (take (o .answer .length) (o .area)) in
+    = arrival (l .state .table) (l .state .summary) (l .state .store) (l .lent .report) (l .state .table .clock) (x .association) (take (o .answer .length) (o .area)) in
     record {
       state = stateOf (r .call .answer .table) (r .summary) (r .call .store);
       lent = lending (r .call .report) (o .area);

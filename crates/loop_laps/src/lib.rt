@@ -6,7 +6,7 @@ ghost use mathlib.Core.Path.{_≡_};
 ghost use mathlib.Core.List.{[]};
 ghost use lib.ListN.{take};
 ghost use Prim.Native.Nat.{_-_, _≤_};
-ghost use Rattle.rules.specs.Summary.{segmentWith};
+ghost use Rattle.rules.specs.Arrival.{arrival};
 ghost use Rattle.rules.specs.Calls.{stateOf, lending};
 ghost use Rattle.demands.specs.Demand2.{numbered};
 ghost use Rattle.loop_laps.specs.Laps.{asked, standing, lap, laps, lapOf, OfLap, OfReceipt};
@@ -43,7 +43,7 @@ pub fn for_segment(q: Request, k: usize) -> Request
     }
 }
 
-// The first n octets of the area are received.
+// The first n octets of the area are received, at the table's own time.
 pub fn receive(
     t: Table,
     association: u16,
@@ -53,13 +53,14 @@ pub fn receive(
     store: &mut [u8],
     report: &mut [u8],
 ) -> Looped
-    ensures { λ r. ⌜ OfReceipt (segmentWith t (now (m .entry)) (now (store .entry)) (now (report .entry)) association (take n (now (area .entry)))) n r (now (m .exit)) (now (store .exit)) (lending (now (report .exit)) []) ⌝ }
+    ensures { λ r. ⌜ OfReceipt (arrival t (now (m .entry)) (now (store .entry)) (now (report .entry)) (t .clock) association (take n (now (area .entry)))) n r (now (m .exit)) (now (store .exit)) (lending (now (report .exit)) []) ⌝ }
 {
-    let r = receiver::segment(
+    let r = receiver::arrival(
         t,
         m,
         store,
         report,
+        t.clock,
         association,
         octets::part(area, 0, n as usize),
     );

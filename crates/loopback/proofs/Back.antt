@@ -10,10 +10,10 @@ use lib.ListN.{length, take}
 use Rattle.octets.proofs.Splice.{splice-length, splice-back}
 use Rattle.rules.specs.Numbers.{storeLeast, parameterMost}
 use Rattle.rules.specs.Refusals.{Check, accepted, first, judged}
-use Rattle.rules.specs.Records.{recordLength}
+use Rattle.rules.specs.Arrival.{arrivalLeast, arrival}
 use Rattle.rules.specs.Places.{lowestFree, placeOf, isAt}
 use Rattle.rules.specs.Soundness.{sound}
-use Rattle.rules.specs.Summary.{rowFor, summarySound, segmentWith}
+use Rattle.rules.specs.Summary.{rowFor, summarySound}
 use Rattle.rules.specs.Delivery.{delivery}
 use Rattle.rules.specs.Receiving.{Reception}
 use Rattle.rules.specs.Sending.{sendingChecks, sending}
@@ -25,17 +25,20 @@ use Rattle.rules.specs.declared.Request.{Request}
 use Rattle.rules.specs.declared.Sent.{Sent}
 use Rattle.rules.specs.declared.Decision.the-variants.{Refused}
 use Rattle.rules.proofs.Refusals.{Sharp, judged-append, judged-by, judged-first, judged-none, accepted-both, first-accepted, accepted-first}
-use Rattle.rules.proofs.Answers.{segment-by}
+use Rattle.rules.proofs.Sweeping.{none-due}
+use Rattle.rules.proofs.Arrival.{quiet, quiet-work}
+use Rattle.rules.proofs.Few.{report-length}
 use Rattle.rules.proofs.Cutting.{cuttable, within-room, count-two, later-carries, first-leaves}
-use Rattle.demands.specs.Machine.{ours, CanCount, Typed, SoundSummary}
+use Rattle.demands.specs.Machine.{ours, clockOf, Typed, SoundSummary}
 use Rattle.demands.specs.Seen.{seenBy}
-use Rattle.demands.specs.Demand2.{Shipment, numbered, header, countIn, segmentedIn, segmentOf, Sender, Sendable, keyIn, arrivalOf, Meanwhile, stop, mine, other, Returns, CanTake, RoundTrip}
+use Rattle.demands.specs.Demand2.{Shipment, numbered, header, countIn, segmentedIn, segmentOf, Sender, Sendable, keyIn, Slot, arrivalIn, arrivalOf, Comes, Meanwhile, stop, mine, other, Returns, CanTake, RoundTrip}
 use Rattle.demands.proofs.Index.{demand-2}
+use Rattle.demands.proofs.Sparing.{store-kept}
 use Rattle.loop_laps.specs.Laps.{Asked, Lap, lap, laps, standing, lapOf, OfLap, OfReceipt}
 use Rattle.loop_laps.specs.declared.Looped.{Looped}
 use Rattle.loop_laps.proofs.Laps.{one-lap}
 use Rattle.loopback.specs.Loopback.{shipmentIn, isRoomy, fitChecks, loopChecks, Looping, looping, OfLoopback}
-use Rattle.loopback.proofs.Room.{Countable, counts-on, can-count}
+use Rattle.loopback.proofs.Room.{Countable, counts-on, timely, silent, can-count}
 
 -- no check has the number 0
 some : (n : ℕ) → suc n ≡ 0 → ⊥
@@ -75,16 +78,11 @@ sending-length t q o d whole area =
     judged-by (λ (r : rule.Sending). length (r .area) ≡ length area) (sendingChecks t q o d whole area)
     (λ n. record { answer = record { refusal = n; count = 0; length = 0 }; area = area }) _ (λ e. splice-length area 0 _) (λ e. refl)
 
-report-length : (t : Table) (m store report : List ℕ) (association : ℕ) (s : List ℕ) → length (segmentWith t m store report association s .call .report) ≡ length report
-report-length t m store report association s =
-    segment-by t m store report association s (λ (r : Reception). length (r .report) ≡ length report) (λ e. splice-length report 0 _) (λ e. refl)
-
 -- segments that arrive one after the other
-more : {x : Shipment} {st st′ : State} {i j : ℕ} → Meanwhile ours x st i st′ j → (report : List ℕ) → recordLength ≤ length report
-    → CanCount st′ (arrivalOf x j report) → Meanwhile ours x st i (step st′ (arrivalOf x j report) .state) (suc j)
-more stop report room counts = mine report room counts stop
-more (mine again wide counted rest) report room counts = mine again wide counted (more rest report room counts)
-more (other c range spares rest) report room counts = other c range spares (more rest report room counts)
+more : {x : Shipment} {st st′ : State} {i j : ℕ} → Meanwhile ours x st i st′ j → (at : Slot) → Comes x st′ j at → Meanwhile ours x st i (step st′ (arrivalOf x j at) .state) (suc j)
+more stop at comes = mine at comes stop
+more (mine again came rest) at comes = mine again came (more rest at comes)
+more (other c range spares rest) at comes = other c range spares (more rest at comes)
 
 module _ (x : Asked) (m store : List ℕ) (lent : Lent) where
   -- what goes out
@@ -116,13 +114,17 @@ module _ (x : Asked) (m store : List ℕ) (lent : Lent) where
   report-at : (k : ℕ) → length (at k .lent .report) ≡ length (lent .report)
   unfolding at
   report-at zero = refl
-  report-at (suc k) = report-length (at k .state .table) (at k .state .summary) (at k .state .store) (at k .lent .report) (x .association) _ ∙ report-at k
+  report-at (suc k) = report-length (at k .state .table) (at k .state .summary) (at k .state .store) (at k .lent .report) (at k .state .table .clock) (x .association) _ ∙ report-at k
+
+  -- segment k comes at the time of the table
+  abbrev slot : ℕ → Slot
+  slot k = record { time = at k .state .table .clock; report = at k .lent .report }
 
   -- segment k is sent from the table as it came, which needs no summary and no store
   abbrev from : ℕ → Sender
   from k = record { state = stateOf (x .table) [] []; area = at k .lent .area }
 
-  module _ (ok : accepted (loopChecks x m store lent) ≡ true) (long : length m ≡ 512) (typed : Typed (x .table)) (carrier : x .association < 2 ^ 16) where
+  module _ (ok : accepted (loopChecks x m store lent) ≡ true) (long : length m ≡ 512) (typed : Typed (x .table)) (clock : x .table .clock < 2 ^ 32) (carrier : x .association < 2 ^ 16) where
     both : (accepted (fitChecks (x .table) m (x .association) (length store) (length (lent .report)) (length (lent .area))) ≡ true)
         × (accepted (sendingChecks (x .table) (numbered (x .request) 0) (x .origin) (x .destination) (x .whole) (lent .area)) ≡ true)
     unfolding loopChecks
@@ -134,7 +136,7 @@ module _ (x : Asked) (m store : List ℕ) (lent : Lent) where
       summed : summarySound m (x .table .places) ≡ true
       good : sound (x .table) ≡ true
       stores : storeLeast ≤ length store
-      reports : recordLength ≤ length (lent .report)
+      reports : arrivalLeast ≤ length (lent .report)
       wide : parameterMost ≤ length (lent .area)
       free : isAt (lowestFree (x .table .places)) ≡ true
       row : isAt (rowFor m (x .association)) ≡ true
@@ -169,9 +171,9 @@ module _ (x : Asked) (m store : List ℕ) (lent : Lent) where
         let written = ap (λ (a : Answer). a .lent .area) (made .answer) in
         rw (size, written) (splice-back (at k .lent .area) 0 (segmentOf out k) (omega (arith, fits-at k under)))
 
-    state-is : (k : ℕ) → k < countIn out → step (at k .state) (arrivalOf out k (at k .lent .report)) .state ≡ at (suc k) .state
+    state-is : (k : ℕ) → k < countIn out → step (at k .state) (arrivalOf out k (slot k)) .state ≡ at (suc k) .state
     unfolding step at
-    state-is k under = ap (λ (p : List ℕ). step (at k .state) (toArrive (x .association) p (at k .lent .report)) .state) (sym (sent-is k under))
+    state-is k under = ap (λ (p : List ℕ). step (at k .state) (toArrive (at k .state .table .clock) (x .association) p (at k .lent .report)) .state) (sym (sent-is k under))
 
     summary-first : SoundSummary (at 0 .state)
     unfolding at
@@ -180,35 +182,50 @@ module _ (x : Asked) (m store : List ℕ) (lent : Lent) where
     short : (k : ℕ) → k < countIn out → length (segmentOf out k) ≤ 255
     short k under = segment-most x (lent .area) (both .1) k under
 
+    wide : (k : ℕ) → arrivalLeast ≤ length (at k .lent .report)
+    wide k = rw (report-at k) (fit .reports)
+
     countable : (k : ℕ) → k ≤ countIn out → Countable (x .association) m k (at k .state)
     unfolding at
-    countable zero under = record { table = fit .good; summary = summary-first; row = fit .row; totals = λ i. omega arith }
+    countable zero under = record { table = fit .good; clock = clock; summary = summary-first; row = fit .row; totals = λ i. omega arith }
     countable (suc k) under =
         subst (λ (st : State). Countable (x .association) m (suc k) st) (state-is k (omega arith))
-        (counts-on (x .association) m k (at k .state) (countable k (omega arith)) (segmentOf out k) (at k .lent .report) (short k (omega arith)) carrier)
+        (counts-on (x .association) m k (at k .state) (countable k (omega arith)) (segmentOf out k) (at k .lent .report) (short k (omega arith)) (wide k) carrier)
 
-    -- each can be counted
-    counted : (k : ℕ) → k < countIn out → CanCount (at k .state) (arrivalOf out k (at k .lent .report))
-    counted k under =
+    store-at : (k : ℕ) → k ≤ countIn out → length (at k .state .store) ≡ length store
+    unfolding at
+    store-at zero under = refl
+    store-at (suc k) under =
+        sym (ap (λ (st : State). length (st .store)) (state-is k (omega arith))) ∙ store-kept (at k .state) (arrivalOf out k (slot k)) ∙ store-at k (omega arith)
+
+    -- each comes, and can be counted
+    comes : (k : ℕ) → k < countIn out → Comes out (at k .state) k (slot k)
+    comes k under =
         let few = within-room _ _ _ _ _ _ (both .1) .count in
-        can-count (x .association) m k (at k .state) (countable k (omega arith)) (segmentOf out k) (at k .lent .report) (short k under) (fit .roomy) (omega arith)
+        let c = countable k (omega arith) in
+        record {
+          range = c .clock;
+          timely = timely (x .association) m k (at k .state) c (segmentOf out k) (at k .lent .report) (short k under) (wide k) (omega (arith, store-at k (omega arith), fit .stores));
+          spares = silent (x .association) m k (at k .state) c (segmentOf out k) (at k .lent .report) (short k under) (wide k) _;
+          counts = can-count (x .association) m k (at k .state) c (segmentOf out k) (at k .lent .report) (short k under) (wide k) (fit .roomy) (omega arith);
+        }
 
-    trip : RoundTrip ours out (at 0 .state) (lent .report)
+    some-out : 1 ≤ countIn out
+    some-out = let n = cuttable (x .table) (numbered (x .request) 0) (x .origin) (x .destination) (x .whole) (lent .area) (both .1) .number in omega arith
+
+    trip : RoundTrip ours out (at 0 .state) (slot 0)
     unfolding at
     trip =
-        demand-2 .back out from can (at 0 .state) (record { sound = fit .good; typed = typed; kind = refl; store = fit .stores; summary = summary-first; carrier = carrier })
-        (lent .report) (fit .reports)
+        demand-2 .back out from can (at 0 .state) (record { sound = fit .good; typed = typed; kind = refl; store = fit .stores; summary = summary-first; carrier = carrier }) (slot 0) (comes 0 some-out)
 
-    meanwhile : (j : ℕ) → j < countIn out → Meanwhile ours out (step (at 0 .state) (arrivalOf out 0 (lent .report)) .state) 1 (at (suc j) .state) (suc j)
-    unfolding at
+    meanwhile : (j : ℕ) → j < countIn out → Meanwhile ours out (step (at 0 .state) (arrivalOf out 0 (slot 0)) .state) 1 (at (suc j) .state) (suc j)
     meanwhile zero under = rw (sym (state-is 0 under)) stop
-    meanwhile (suc j) under =
-        rw (sym (state-is (suc j) under)) (more (meanwhile j (omega arith)) (at (suc j) .lent .report) (rw (report-at (suc j)) (fit .reports)) (counted (suc j) under))
+    meanwhile (suc j) under = rw (sym (state-is (suc j) under)) (more (meanwhile j (omega arith)) (slot (suc j)) (comes (suc j) under))
 
-    last-hands : (j : ℕ) → suc j ≡ countIn out → Returns out (seenBy ours (at j .state) (arrivalOf out j (at j .lent .report))) → handed (at (countIn out)) ≡ x .whole
+    last-hands : (j : ℕ) → suc j ≡ countIn out → Returns out (seenBy ours (at j .state) (arrivalOf out j (slot j))) → handed (at (countIn out)) ≡ x .whole
     unfolding step at
     last-hands j e r =
-        let got : List ℕ → Reception = λ p. segmentWith (at j .state .table) (at j .state .summary) (at j .state .store) (at j .lent .report) (x .association) p .call in
+        let got : List ℕ → Reception = λ p. arrival (at j .state .table) (at j .state .summary) (at j .state .store) (at j .lent .report) (at j .state .table .clock) (x .association) p .call in
         subst (λ (n : ℕ). handed (at n) ≡ x .whole) e
         (ap (λ (p : List ℕ). delivery (got p .answer .decision) p (got p .store)) (sent-is j (omega arith)) ∙ r .handed)
 
@@ -216,21 +233,23 @@ module _ (x : Asked) (m store : List ℕ) (lent : Lent) where
     two-least e =
         count-two (header out) (x .request) (length (x .whole)) e (later-carries _ _ _ _ _ _ (both .1) e) (first-leaves _ _ _ _ _ _ (both .1) e)
 
-    free-first : CanTake out (at 0 .state)
+    free-first : CanTake out (at 0 .state) (slot 0)
     unfolding at
-    free-first = rw (fit .free) (or-true (isAt (placeOf (keyIn out) (x .table .places))))
+    free-first =
+        let same : clockOf (at 0 .state) (arrivalIn out 0 (slot 0)) ≡ quiet (x .table) m (lent .report) (x .table .clock) = quiet-work (x .table) m (lent .report) (x .table .clock) (none-due (x .table) (fit .good)) in
+        rw same (rw (fit .free) (or-true (isAt (placeOf (keyIn out) (x .table .places)))))
 
     back-by : (b : Bool) → segmentedIn out ≡ b → handed (at (countIn out)) ≡ x .whole
     unfolding at
     back-by false e =
         let one : suc 0 ≡ countIn out = sym (simp e) in
-        last-hands 0 one (trip .alone e (counted 0 (omega arith)))
+        last-hands 0 one (trip .alone e)
     back-by true e =
         let two = two-least e in
         let j : ℕ = countIn out - 2 in
         let last : suc (suc j) ≡ countIn out = omega arith in
         last-hands (suc j) last
-        (trip .later e free-first (counted 0 (omega arith)) (suc j) (omega arith) (at (suc j) .state) (meanwhile j (omega arith)) (at (suc j) .lent .report) (rw (report-at (suc j)) (fit .reports)) (counted (suc j) (omega arith)) .1 last)
+        (trip .later e free-first (suc j) (omega arith) (at (suc j) .state) (meanwhile j (omega arith)) (slot (suc j)) (comes (suc j) (omega arith)) .1 last)
 
     pub back : handed (laps (countIn out) 0 x start) ≡ x .whole
     unfolding at
@@ -291,7 +310,7 @@ module _ (x : Asked) (m store : List ℕ) (lent : Lent) where
       (accepted-first sends (sends-accepted z))
 
   -- the contract, of an answer that is the rule's
-  module _ (long : length m ≡ 512) (typed : Typed (x .table)) (carrier : x .association < 2 ^ 16) where
+  module _ (long : length m ≡ 512) (typed : Typed (x .table)) (clock : x .table .clock < 2 ^ 32) (carrier : x .association < 2 ^ 16) where
     loop-sharp : Sharp (loopChecks x m store lent)
     unfolding loopChecks
     loop-sharp =
@@ -320,7 +339,7 @@ module _ (x : Asked) (m store : List ℕ) (lent : Lent) where
           lent = λ i. l i .lent;
           only = zero-only;
           always = λ ok. n ∙ number-first ∙ accepted-first (loopChecks x m store lent) ok;
-          returned = λ z. ap handed l ∙ ap handed (done (zero-only z)) ∙ back (zero-only z) long typed carrier;
+          returned = λ z. ap handed l ∙ ap handed (done (zero-only z)) ∙ back (zero-only z) long typed clock carrier;
         }
 
     -- nothing was done
@@ -349,19 +368,19 @@ module _ (x : Asked) (m store : List ℕ) (lent : Lent) where
         omega arith
 
     -- all segments
-    pub kept-done : (long : length m ≡ 512) (typed : Typed (x .table)) (carrier : x .association < 2 ^ 16) → first fits ≡ 0 → s .refusal ≡ 0
+    pub kept-done : (long : length m ≡ 512) (typed : Typed (x .table)) (clock : x .table .clock < 2 ^ 32) (carrier : x .association < 2 ^ 16) → first fits ≡ 0 → s .refusal ≡ 0
         → (one : Looped) (m1 store1 : List ℕ) (lent1 : Lent)
-        → OfReceipt (segmentWith (x .table) m store (lent .report) (x .association) (take (s .length) area′)) (s .length) one m1 store1 lent1
+        → OfReceipt (arrival (x .table) m store (lent .report) (x .table .clock) (x .association) (take (s .length) area′)) (s .length) one m1 store1 lent1
         → (answer : Looped) (m2 store2 : List ℕ) (lent2 : Lent) → OfLap (laps (s .count - 1) 1 x (lapOf one m1 store1 (lending (lent1 .report) area′))) answer m2 store2 lent2
         → OfLoopback x m store lent answer m2 store2 lent2
     unfolding laps
-    kept-done long typed carrier fit z one m1 store1 lent1 got answer m2 store2 lent2 all =
+    kept-done long typed clock carrier fit z one m1 store1 lent1 got answer m2 store2 lent2 all =
         let r = sym refusal-is ∙ z in
         let n = count-some r in
         let e : countIn out ≡ suc (s .count - 1) = let c = count-is ∙ sent-count r in omega arith in
         let o = looping-done fit r in
         let first-lap = one-lap x 0 (stateOf (x .table) m store) lent area′ q s one m1 store1 lent1 asked-for k got .lapped in
         let after : laps (suc (s .count - 1)) 0 x start ≡ laps (s .count - 1) 1 x (lap x 0 start) = refl in
-        kept long typed carrier answer m2 store2 lent2
+        kept long typed clock carrier answer m2 store2 lent2
         (all .lapped ∙ ap (laps (s .count - 1) 1 x) first-lap ∙ sym after ∙ ap (λ (n : ℕ). laps n 0 x start) (sym e) ∙ sym (ap (λ (o : Looping). o .lap) o))
         (all .number ∙ sym (ap (λ (o : Looping). o .number) o))

@@ -1,4 +1,5 @@
--- What owning a table tells: it has 16 places, and the addresses and associations of their keys are of their types.
+-- What owning a table tells: it has 16 places, the addresses and associations of their keys are of their types, and so is its clock.
+use Prim.Native.Nat.{_<_, _^_}
 use mathlib.Core.List.{List, [], _∷_, map}
 use lib.ListN.{length-map}
 use mir.Val.{Val}
@@ -31,3 +32,7 @@ owned-each (p ∷ ps) (u ∷ us) g = (owned-place p u (g .0), owned-each ps us (
 
 pub owned : (t : Table) → Is (row the-type) t (val the-type the-laws t ∷ []) → Typed t
 owned t g = record { count = simp length-map at (g .1 .1 .0 .1 .0 .1); each = owned-each (t .places) _ (g .1 .1 .0 .1 .1) }
+
+-- its clock has 32 bits
+pub owned-clock : (t : Table) → Is (row the-type) t (val the-type the-laws t ∷ []) → t .clock < 2 ^ 32
+owned-clock t g = g .1 .1 .1 .1 .1 .0 .1

@@ -1,20 +1,24 @@
 -- A segment adds little to any total, so that the summary can count each of a loopback's.
 use Prim.Native.Nat.{ℕ, zero, suc, _+_, _*_, _-_, _≤_, _<_, _^_}
-use mathlib.Core.Path.{_≡_, refl, sym, _∙_}
+use mathlib.Core.Path.{_≡_, refl, sym, ap, subst, _∙_}
 use mathlib.Core.Bool.{Bool, true, false, or-true, and-eq-true-iff, true≢false}
-use mathlib.Core.List.{List, [], _∷_}
+use mathlib.Core.List.{List, [], _∷_, _++_}
 use native.Mathlib.Omega.{arith}
 use native.Mathlib.Numerals.{add-one}
 use borrow.Author.Tests.{eqb-true, eqb-false, leb-true, le-leb, lt-leb}
 use lib.Dec.{eqb, leb}
 use lib.ListN.{length, getD, length-drop}
 use Rattle.rules.specs.General.{every}
+use Rattle.rules.specs.Numbers.{storeLeast}
+use Rattle.rules.specs.Refusals.{accepted}
 use Rattle.rules.specs.Layout.{fieldsOf}
 use Rattle.rules.specs.Places.{noPlace, isOpen, isAt, placeOf, placeAt, lowestFree}
 use Rattle.rules.specs.Soundness.{placeSound, sound}
 use Rattle.rules.specs.Receiving.{Reception, keyOf, informationOf, effectOf, receivedAt}
-use Rattle.rules.specs.Summary.{Counted, everyBelow, totalCount, totalMost, tally, seat, rowOf, rowFor, unusedRow, orElse, tookAt, took, columnOf, billAt, bill, billed, fits, segmentSums}
-use Rattle.rules.specs.Calls.{State, toArrive, step}
+use Rattle.rules.specs.Summary.{Counted, everyBelow, totalCount, totalMost, tally, seat, rowOf, rowFor, unusedRow, orElse, tookAt, took, columnOf, billAt, bill, billed, fits, rowChecks, segmentSums, segmentChecksWith}
+use Rattle.rules.specs.Arrival.{arrivalLeast, bothChecks}
+use Rattle.rules.specs.Sweep.{Sweeping}
+use Rattle.rules.specs.Calls.{State, Arrival, Arrives, stateOf, afterArrival, step}
 use Rattle.rules.specs.declared.Key.{Key}
 use Rattle.rules.specs.declared.Entry.{Entry}
 use Rattle.rules.specs.declared.Place.{Place}
@@ -30,9 +34,11 @@ use Rattle.rules.proofs.Rows.{total-count, row-of-within, row-for-within}
 use Rattle.rules.proofs.Fitting.{tally-first, tally-second, tally-other, seat-totals, length-seat, length-took, column-within}
 use Rattle.rules.proofs.Seats.{took-sound, billed-keeps}
 use Rattle.rules.proofs.Answers.{segment-with}
+use Rattle.rules.proofs.Sweeping.{none-due}
+use Rattle.rules.proofs.Arrival.{quiet, quiet-work, own-whole, own-time}
 use Rattle.rules.proofs.Held.{open-is, places-sound}
 use Rattle.rules.proofs.Soundness.{open-parts, free-holds}
-use Rattle.demands.specs.Machine.{SoundSummary, CanCount}
+use Rattle.demands.specs.Machine.{clockOf, wholeOf, All, SoundSummary, CanCount}
 use Rattle.demands.proofs.Counted.{summary-kept}
 use Rattle.demands.proofs.Sound.{kept as sound-kept}
 use Rattle.loopback.specs.Loopback.{isRoomy}
@@ -133,14 +139,28 @@ sums-most t m store report association s good long short k =
       billed-most (took m association n) made (length-took m association n ∙ long) (effect-slight _ t store key f (informationOf s f) place _ (lowestFree (t .places)) (found-small t good place) within) (128 + k),
     )
 
-module _ (st : State) (report : List ℕ) (association : ℕ) (s : List ℕ) where
-  after-most : sound (st .table) ≡ true → length (st .summary) ≡ 512 → length s ≤ 255
-      → (k : ℕ) → getD (step st (toArrive association s report) .state .summary) (128 + k) 0 ≤ getD (st .summary) (128 + k) 0 + 2570
+-- .. that arrives at the table's own time
+abbrev pub ownArrival : State → List ℕ → ℕ → List ℕ → Arrival
+ownArrival st report association s = record { time = st .table .clock; association = association; parameter = s; report = report }
+
+module _ (st : State) (report : List ℕ) (long : arrivalLeast ≤ length report) (association : ℕ) (s : List ℕ) where
+  -- what holds of the segment's rule holds of it
+  own-by : (P : State → Type 0) → (accepted (segmentChecksWith (st .table) (st .summary) (st .store) report association s) ≡ true
+      → P (stateOf (receivedAt (st .table) (st .store) report association s .answer .table) (segmentSums (st .table) (st .summary) (st .store) report association s) (receivedAt (st .table) (st .store) report association s .store)))
+      → P st → P (step st (Arrives (ownArrival st report association s)) .state)
   unfolding step
-  after-most good long short k =
-      segment-with (st .table) (st .summary) (st .store) report association s
-      (λ (o : Counted Reception). getD (o .summary) (128 + k) 0 ≤ getD (st .summary) (128 + k) 0 + 2570)
-      (λ e. sums-most (st .table) (st .summary) (st .store) report association s good long short k) (λ e. omega arith)
+  own-by P taken refused =
+      rw (own-time (st .table) (st .summary) (st .store) report association s long)
+      (segment-with (st .table) (st .summary) (st .store) report association s (λ (o : Counted Reception). P (afterArrival o .state)) taken (λ e. refused))
+
+  after-most : sound (st .table) ≡ true → length (st .summary) ≡ 512 → length s ≤ 255
+      → (k : ℕ) → getD (step st (Arrives (ownArrival st report association s)) .state .summary) (128 + k) 0 ≤ getD (st .summary) (128 + k) 0 + 2570
+  after-most good size short k =
+      own-by (λ (u : State). getD (u .summary) (128 + k) 0 ≤ getD (st .summary) (128 + k) 0 + 2570)
+      (λ e. sums-most (st .table) (st .summary) (st .store) report association s good size short k) (omega arith)
+
+  after-clock : step st (Arrives (ownArrival st report association s)) .state .table .clock ≡ st .table .clock
+  after-clock = own-by (λ (u : State). u .table .clock ≡ st .table .clock) (λ e. refl) refl
 
   -- who has a row can count in it
   own-row : (m : List ℕ) → isAt (rowOf m association) ≡ true → isAt (rowFor m association) ≡ true
@@ -151,15 +171,14 @@ module _ (st : State) (report : List ℕ) (association : ℕ) (s : List ℕ) whe
       go Nothing h = absurd (true≢false (sym h))
 
   after-row : association < 2 ^ 16 → SoundSummary st → isAt (rowFor (st .summary) association) ≡ true
-      → isAt (rowFor (step st (toArrive association s report) .state .summary) association) ≡ true
-  unfolding step segmentSums
+      → isAt (rowFor (step st (Arrives (ownArrival st report association s)) .state .summary) association) ≡ true
+  unfolding segmentSums
   after-row small h row =
       let n : ℕ = length (informationOf s (fieldsOf (st .table .registry) s)) in
       let one = took-sound (st .summary) (st .table .places) association n (h .size) small row (h .sound) in
-      segment-with (st .table) (st .summary) (st .store) report association s
-      (λ (o : Counted Reception). isAt (rowFor (o .summary) association) ≡ true)
+      own-by (λ (u : State). isAt (rowFor (u .summary) association) ≡ true)
       (λ e. own-row (billed (took (st .summary) association n) (receivedAt (st .table) (st .store) report association s .made))
-      (billed-keeps (took (st .summary) association n) (receivedAt (st .table) (st .store) report association s .made) (st .table .places) (one .0) association (one .1))) (λ e. row)
+      (billed-keeps (took (st .summary) association n) (receivedAt (st .table) (st .store) report association s .made) (st .table .places) (one .0) association (one .1))) row
 
 -- A LOOPBACK, after k of its segments: each adds at most 2,570 to a total
 
@@ -168,22 +187,37 @@ leaves m k = leb (getD m (128 + k) 0 + 65536) totalMost
 
 pub record Countable (association : ℕ) (m : List ℕ) (k : ℕ) (st : State) : Type 0 where
   pub table : sound (st .table) ≡ true
+  pub clock : st .table .clock < 2 ^ 32
   pub summary : SoundSummary st
   pub row : isAt (rowFor (st .summary) association) ≡ true
   pub totals : (i : ℕ) → getD (st .summary) (128 + i) 0 ≤ getD m (128 + i) 0 + 6000 * k
 
-module _ (association : ℕ) (m : List ℕ) (k : ℕ) (st : State) (h : Countable association m k st) (s report : List ℕ) (short : length s ≤ 255) where
-  pub counts-on : association < 2 ^ 16 → Countable association m (suc k) (step st (toArrive association s report) .state)
+module _ (association : ℕ) (m : List ℕ) (k : ℕ) (st : State) (h : Countable association m k st) (s report : List ℕ) (short : length s ≤ 255) (long : arrivalLeast ≤ length report) where
+  abbrev y : Arrival
+  y = ownArrival st report association s
+
+  pub counts-on : association < 2 ^ 16 → Countable association m (suc k) (step st (Arrives y) .state)
   counts-on small =
       record {
-        table = sound-kept st (toArrive association s report) refl (h .table);
-        summary = summary-kept st (toArrive association s report) refl small (h .summary);
-        row = after-row st report association s small (h .summary) (h .row);
-        totals = λ i. omega (arith, h .totals i, after-most st report association s (h .table) (h .summary .size) short i);
+        table = sound-kept st (Arrives y) refl (h .table);
+        clock = rw (after-clock st report long association s) (h .clock);
+        summary = summary-kept st (Arrives y) refl (h .clock, small) (h .summary);
+        row = after-row st report long association s small (h .summary) (h .row);
+        totals = λ i. omega (arith, h .totals i, after-most st report long association s (h .table) (h .summary .size) short i);
       }
 
-  pub can-count : isRoomy m ≡ true → k < 10 → CanCount st (toArrive association s report)
-  unfolding isRoomy fits
+  -- its clock work is none
+  still : clockOf st y ≡ quiet (st .table) (st .summary) report (st .table .clock)
+  still = quiet-work (st .table) (st .summary) report (st .table .clock) (none-due (st .table) (h .table))
+
+  pub timely : storeLeast ≤ length (st .store) → accepted (wholeOf st y) ≡ true
+  timely stores = own-whole (st .table) (st .summary) (st .store) report association s long (h .table) (h .summary .sound) stores
+
+  pub silent : (P : Record → Type 0) → All P (clockOf st y .call .made)
+  silent P = subst (All P) (sym (ap (λ (w : Counted Sweeping). w .call .made) still)) tt
+
+  pub can-count : isRoomy m ≡ true → k < 10 → CanCount st (Arrives y)
+  unfolding isRoomy fits bothChecks
   can-count roomy few =
       let sums : List ℕ = segmentSums (st .table) (st .summary) (st .store) report association s in
       let room : fits (st .summary) sums ≡ true
@@ -192,7 +226,7 @@ module _ (association : ℕ) (m : List ℕ) (k : ℕ) (st : State) (h : Countabl
       let start = leb-true (getD m (128 + i) 0 + 65536) totalMost (below-at (leaves m) totalCount roomy i l) in
       let most = sums-most (st .table) (st .summary) (st .store) report association s (h .table) (h .summary .size) short i in
       rw (le-leb (getD sums (128 + i) 0) totalMost (omega (arith, h .totals i))) (or-true (eqb (getD sums (128 + i) 0) (getD (st .summary) (128 + i) 0)))) in
-      rw (h .row, room)
+      subst (λ (w : Counted Sweeping). accepted (rowChecks (w .summary) association ++ bothChecks w (st .store) association s) ≡ true) (sym still) (rw (h .row, room))
 
 -- ROOM, as the code asks for it: one total after the other, and without a sum, which might not fit 64 bits
 

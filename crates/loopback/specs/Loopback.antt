@@ -7,7 +7,7 @@ use lib.Dec.{leb}
 use lib.ListN.{length, take, getD}
 use Rattle.rules.specs.Numbers.{storeLeast, parameterMost}
 use Rattle.rules.specs.Refusals.{Check, _when_, _for_under_, accepted, judged}
-use Rattle.rules.specs.Records.{recordLength}
+use Rattle.rules.specs.Arrival.{arrivalLeast}
 use Rattle.rules.specs.Registry.{kindOf}
 use Rattle.rules.specs.Places.{lowestFree, isAt}
 use Rattle.rules.specs.Soundness.{sound}
@@ -42,14 +42,14 @@ countChecks m association =
     21 when not (isAt (rowFor m association)) ∷
     22 when not (isRoomy m) ∷ []
 
--- the conditions: summary and table are sound, the areas are long enough for any segment and its record, a place is free, the summary can count all that may be counted, and none
+-- the conditions: summary and table are sound, the areas are long enough for any arrival, a place is free, the summary can count all that may be counted, and none
 -- of sending's own applies
 abbrev pub fitChecks : Table → List ℕ → ℕ → ℕ → ℕ → ℕ → List Check
 fitChecks t m association store report area =
     1 when not (summarySound m (t .places)) ∷
     1 when not (sound t) ∷
     2 for store under storeLeast ∷
-    3 for report under recordLength ∷
+    3 for report under arrivalLeast ∷
     20 for area under parameterMost ∷
     10 when not (isAt (lowestFree (t .places))) ∷ countChecks m association
 

@@ -94,7 +94,7 @@ fn unfit(
     if store < rules::STORE {
         return 2;
     }
-    if report < rules::RECORD {
+    if report < rules::REPORT_ARRIVAL {
         return 3;
     }
     if area < 255 {

@@ -42,7 +42,7 @@ fn looped(data: &[u8]) {
     let table = fresh(&mut summary);
     let mut area = [0u8; 255];
     let mut store = [0u8; rules::STORE];
-    let mut report = [0u8; rules::RECORD];
+    let mut report = [0u8; rules::REPORT_ARRIVAL];
     let r = loopback::loopback(
         table,
         &mut summary,

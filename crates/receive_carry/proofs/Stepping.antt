@@ -25,8 +25,8 @@ puts {v} {i} {p} {q} {d} e f = e ∙ ap (λ (x : Place). takenTo i x d) f
 
 -- answers that differ in their places only
 pub places-answer : (t : Table) (d : Decision) (n : ℕ) {ps qs : List Place} → ps ≡ qs
-    → _≡_ {A = Received} (record { table = withPlaces t ps; decision = d; position = nowhere; refusal = 0; records = n }) (record { table = withPlaces t qs; decision = d; position = nowhere; refusal = 0; records = n })
-places-answer t d n e = ap (λ (l : List Place). record { table = withPlaces t l; decision = d; position = nowhere; refusal = 0; records = n }) e
+    → _≡_ {A = Received} (record { table = withPlaces t ps; decision = d; position = nowhere; refusal = 0; records = n; timeouts = 0 }) (record { table = withPlaces t qs; decision = d; position = nowhere; refusal = 0; records = n; timeouts = 0 })
+places-answer t d n e = ap (λ (l : List Place). record { table = withPlaces t l; decision = d; position = nowhere; refusal = 0; records = n; timeouts = 0 }) e
 
 -- a verdict saves from where it says, and has room where the one that it is has
 pub saved-as : {v w : Verdict} {i : ℕ} (n : ℕ) → v ≡ w → w .information ≡ i → ((store : ℕ) → storeLeast ≤ store → Fits w store n)

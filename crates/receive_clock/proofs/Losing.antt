@@ -10,9 +10,8 @@ use Rattle.rules.specs.General.{if_then_else_, those}
 use Rattle.rules.specs.Numbers.{placeCount}
 use Rattle.rules.specs.Refusals.{_when_, judged}
 use Rattle.rules.specs.Places.{noPlace, firstFrom, isAt}
-use Rattle.rules.specs.Sweep.{Sweeping, lossOf, freedBy, sweep, unswept}
+use Rattle.rules.specs.Sweep.{Sweeping, lossOf, sweep, unswept}
 use Rattle.rules.specs.Summary.{Counted, counting, fits, bill, billed}
-use Rattle.rules.specs.declared.Found.the-variants.{At}
 use Rattle.rules.specs.declared.Place.{Place}
 use Rattle.rules.specs.declared.Record.{Record}
 use Rattle.rules.specs.declared.Table.{Table}
@@ -21,6 +20,7 @@ use Rattle.rules.proofs.Fitting.{fits-chain, fits-same, billed-grows, length-bi
 use Rattle.summary.specs.Losses.{lossIn}
 use Rattle.summary.proofs.Losing.{bill-loss-in}
 use Rattle.receive_sweep.specs.Sweeping.{testOf, causeOf, losses, sweptBy}
+use Rattle.receive_sweep.proofs.Sweeping.{none-those}
 use Rattle.receive_clock.specs.Clocking.{sweptWith, passedAt}
 use Rattle.receive_sweep.specs.declared.Test.{Test}
 
@@ -96,17 +96,6 @@ module _ {which : Test} {ps : List Place} {m₀ : List ℕ} {i : ℕ} {m : List 
 
     pub all-billed : m ≡ billed m₀ (losses which ps)
     all-billed = sym (b .sums ∙ nothing)
-
--- where no place passes a test
-none-those : (test : Place → Bool) (ps : List Place) (i : ℕ) → isAt (firstFrom test ps i) ≡ false → (those test ps ≡ []) × (map (freedBy test) ps ≡ ps)
-none-those test [] i e = (refl, refl)
-none-those test (p ∷ ps) i e = go (test p) refl e (none-those test ps (i + 1))
-  where
-    go : (b : Bool) → test p ≡ b → isAt (if b then At i else firstFrom test ps (i + 1)) ≡ false
-        → (isAt (firstFrom test ps (i + 1)) ≡ false → (those test ps ≡ []) × (map (freedBy test) ps ≡ ps))
-        → (those test (p ∷ ps) ≡ []) × (map (freedBy test) (p ∷ ps) ≡ p ∷ ps)
-    go true t f more = let z : _≡_ {A = ℕ} 0 1 = cc in absurd (omega arith)
-    go false t f more = (rw (t, more f .0), rw (t, more f .1))
 
 -- a sweep with the summary by whether its losses fit
 module _ (which : Test) (time : ℕ) (t : Table) (m report : List ℕ) where

@@ -51,7 +51,7 @@ fn bill_due(m: &mut [u64; rules::SUMMARY], which: Test, p: Place) -> bool
 }
 
 // Bills all that a sweep loses, each on top of those before it, so that several of one association are judged by their sum.
-fn billed(t: Table, which: Test, m: &mut [u64; rules::SUMMARY]) -> bool
+pub fn billed(t: Table, which: Test, m: &mut [u64; rules::SUMMARY]) -> bool
     ensures { λ r. ⌜ r ≡ fits (now (m .entry)) (billed (now (m .entry)) (losses which (t .places))) ⌝ }
     ensures { λ r. ⌜ (r ≡ true → now (m .exit) ≡ billed (now (m .entry)) (losses which (t .places))) ⌝ }
 {

@@ -60,7 +60,7 @@ Fits v store n = v .saves ≡ true → (storeLeast ≤ store) × (v .from + n �
 -- the answer that a verdict makes of a table: one place changes
 abbrev pub answerOf : Table → ℕ → Verdict → Received
 answerOf t place v =
-    record { table = withPlaces t (set (t .places) place (v .put)); decision = v .decision; position = v .position; refusal = v .refusal; records = v .records }
+    record { table = withPlaces t (set (t .places) place (v .put)); decision = v .decision; position = v .position; refusal = v .refusal; records = v .records; timeouts = 0 }
 
 -- a verdict that, performed on a store and a report area, leaves what a rule does
 pub record Leads (o : Reception) (t : Table) (place : ℕ) (key : Key) (v : Verdict) (octets store report : List ℕ) : Type 0 where

@@ -8,7 +8,7 @@ use lib.ListN.{length}
 use Rattle.rules.specs.Numbers.{parameterMost, addressMost}
 use Rattle.rules.specs.Refusals.{accepted, first, fault}
 use Rattle.rules.specs.Layout.{fieldsOf, readingChecks}
-use Rattle.rules.proofs.Refusals.{first-least}
+use Rattle.rules.proofs.Refusals.{first-each}
 use Rattle.rules.proofs.Least.{reading-least}
 use Rattle.rules.proofs.Reading.{parameter-short, origin-short, destination-short}
 use Rattle.param_read.specs.Reading.{reading}
@@ -64,5 +64,5 @@ read-number registry s x e z = go (accepted (readingChecks registry s)) refl
     go false a =
         let same : fault (readingChecks registry s) ≡ x = let h = simp a at e in cc in
         let number : first (readingChecks registry s) ≡ x .number = ap (λ (y : Fault). y .number) same in
-        let least = first-least 2 (readingChecks registry s) (reading-least registry s) a in
+        let least = first-each (λ k. 2 ≤ k) (readingChecks registry s) (reading-least registry s) a in
         omega arith

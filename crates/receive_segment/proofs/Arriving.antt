@@ -8,6 +8,7 @@ use lib.ListN.{length, getD}
 use Rattle.rules.specs.General.{every}
 use Rattle.rules.specs.Refusals.{Check, unplaced, judgedAt}
 use Rattle.rules.specs.Layout.{isUnsegmented, fieldsOf, readingChecks}
+use Rattle.rules.specs.Records.{recordLength}
 use Rattle.rules.specs.Places.{noPlace, freePlace, isOpen, placeOf, lowestFree, isAt, placeAt}
 use Rattle.rules.specs.Soundness.{freeSound, placeSound, sound}
 use Rattle.rules.proofs.Held.{open-is, places-sound}
@@ -194,16 +195,15 @@ afterReading t store report association s (Refused x) = unreceived t store repor
 afterReading t store report association s (Read f) = arrival t store report (keyOf association s f) f (informationOf s f)
 
 pub segment-is : (t : Table) (store report : List ℕ) (association : ℕ) (s : List ℕ) (n m : ℕ) → length store ≡ n → length report ≡ m → segment t store report association s
-    ≡ judgedAt (lentChecks (sound t) n m) (unreceived t store report) (afterReading t store report association s (reading (t .registry) s))
+    ≡ judgedAt (lentChecks recordLength (sound t) n m) (unreceived t store report) (afterReading t store report association s (reading (t .registry) s))
 unfolding segment segmentChecks reading arrival
 segment-is t store report association s n m a b =
     let f : Fields = fieldsOf (t .registry) s in
     let key : Key = keyOf association s f in
     let line : Line = lineAt t key (f .heading) (length (informationOf s f)) in
-    let areas : List Check = lentChecks (sound t) (length store) (length report) in
+    let areas : List Check = lentChecks recordLength (sound t) (length store) (length report) in
     let reads : List Check = readingChecks (t .registry) s in
     let full : List Check = takingChecks line (t .places) in
-    fault-append (areas ++ reads) full (unreceived t store report) _
-    ∙ fault-append areas reads (unreceived t store report) _
-    ∙ ap (λ (r : Reception). judgedAt areas (unreceived t store report) r) (sym (fault-then (afterReading t store report association s) reads Refused (Read f)))
+    fault-append areas (reads ++ full) (unreceived t store report) _
+    ∙ ap (λ (r : Reception). judgedAt areas (unreceived t store report) r) (fault-append reads full (unreceived t store report) _ ∙ sym (fault-then (afterReading t store report association s) reads Refused (Read f)))
     ∙ rw (a, b)

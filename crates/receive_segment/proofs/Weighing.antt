@@ -1,5 +1,5 @@
 -- A call's number by its verdict and its count, and what the rule then leaves.
-use Prim.Native.Nat.{ℕ}
+use Prim.Native.Nat.{ℕ, _≤_}
 use mathlib.Core.Path.{_≡_, refl, sym, ap, _∙_}
 use mathlib.Core.Bool.{Bool, true, false, not}
 use mathlib.Core.List.{List, [], _∷_, _++_}
@@ -11,7 +11,7 @@ use Rattle.rules.specs.Refusals.{nowhere, Check, _when_, accepted, first, first
 use Rattle.rules.specs.Places.{noPlace, isAt}
 use Rattle.rules.specs.Receiving.{Reception, receivedAt, unreceived, segmentChecks, segment}
 use Rattle.rules.specs.Summary.{Counted, counting, summarySound, rowFor, fits, took, billed, summaryChecks, rowChecks, totalChecks, segmentSums, segmentChecksWith, segmentWith}
-use Rattle.rules.proofs.Refusals.{Least, least-append, accepted-first, accepted-nowhere, first-passed, first-met, fault-first, first-least}
+use Rattle.rules.proofs.Refusals.{Least, each-append, accepted-first, accepted-nowhere, first-passed, first-met, fault-first, first-each}
 use Rattle.rules.proofs.Least.{zero-accepted, segment-least}
 use Rattle.rules.specs.declared.Fault.{Fault}
 use Rattle.rules.specs.declared.Key.{Key}
@@ -92,7 +92,7 @@ module _ (t : Table) (m store report : List ℕ) (association : ℕ) (s : List �
           let z : v .refusal ≡ 0 = own-number ∙ accepted-first own e in
           weighs .counted g z .number key (judges .own z) ∙ ap (λ (l : List ℕ). first (rowChecks m association ++ totalChecks m l)) (sums-same z) ∙ sym (first-passed number-in 0 own last e)
       by-own g false e =
-          let some = first-least 1 own (segment-least t store report association s) e in
+          let some = first-each (λ k. 1 ≤ k) own (segment-least t store report association s) e in
           weighs .refused g (λ z. omega (arith, own-number, some)) ∙ own-number ∙ sym (first-met number-in 0 own last e)
 
       go : (b : Bool) → isSummed ≡ b → isSummed ≡ summarySound m (t .places) → c .refusal ≡ first (summaryChecks m (t .places) ++ (own ++ last))
@@ -119,7 +119,7 @@ module _ (t : Table) (m store report : List ℕ) (association : ℕ) (s : List �
 
   all-least : Least 1 all
   unfolding segmentChecksWith
-  all-least = (omega arith, least-append 1 own last (segment-least t store report association s) (omega arith, (omega arith, tt)))
+  all-least = (omega arith, each-append (λ k. 1 ≤ k) own last (segment-least t store report association s) (omega arith, (omega arith, tt)))
 
   refused-is : (c .refusal ≡ 0 → ⊥) → segmentWith t m store report association s ≡ counting m (unreceived t store report blame)
   unfolding segmentWith

@@ -9,6 +9,7 @@ use Rattle.rules.specs.Refusals.{nowhere, judgedAt}
 use Rattle.rules.specs.Layout.{fieldsOf}
 use Rattle.rules.specs.Places.{placeOf, lowestFree, placeAt}
 use Rattle.rules.specs.Receiving.{informationOf, lineAt, effectOf, takingChecks, Reception, receptionOf, unreceived, segment}
+use Rattle.rules.specs.Summary.{segmentWith}
 use Rattle.receive_perform.specs.Performing.{Fits, Leads}
 use Rattle.receive_perform.specs.declared.Verdict.{Verdict}
 use Rattle.receive_count.specs.Counting.{OfCount}
@@ -18,6 +19,7 @@ use Rattle.rules.specs.declared.Table.{Table}
 use Rattle.rules.specs.declared.Fields.{Fields}
 use Rattle.rules.specs.declared.Found.{Found}
 use Rattle.rules.specs.declared.Line.{Line}
+use Rattle.rules.specs.declared.Received.{Received}
 
 -- what becomes of a segment of a key, with fields f and these octets: 10, or what its line does
 unfoldable pub arrival : Table → List ℕ → List ℕ → Key → Fields → List ℕ → Reception
@@ -45,3 +47,10 @@ pub record OfWeighing (m : List ℕ) (isSummed : Bool) (association n : ℕ) (v 
   pub refused : isSummed ≡ true → (v .refusal ≡ 0 → ⊥) → c .refusal ≡ v .refusal
   pub counted : isSummed ≡ true → v .refusal ≡ 0 → OfCount m association n v c
   pub taken : c .refusal ≡ 0 → (isSummed ≡ true) × (v .refusal ≡ 0)
+
+-- what a segment is answered and leaves: by its rule, at any table
+pub record OfSegment (t : Table) (m store report : List ℕ) (association : ℕ) (s : List ℕ) (answer : Received) (m′ store′ report′ : List ℕ) : Type 0 where
+  pub answered : answer ≡ segmentWith t m store report association s .call .answer
+  pub summed : m′ ≡ segmentWith t m store report association s .summary
+  pub stored : store′ ≡ segmentWith t m store report association s .call .store
+  pub reported : report′ ≡ segmentWith t m store report association s .call .report

@@ -1,4 +1,4 @@
-// Segments joined: the segment call.
+// Segments joined: the segment's part of an arrival.
 use param_read::Reading;
 use receive_carry::Judged;
 use receive_count::Count;
@@ -20,12 +20,12 @@ ghost use Rattle.rules.specs.Places.{noPlace};
 ghost use Rattle.rules.specs.Receiving.{keyOf, informationOf};
 ghost use Rattle.rules.specs.Soundness.{sound};
 ghost use Rattle.rules.specs.declared.Key.{Key};
-ghost use Rattle.rules.specs.Promises.{OfSegment};
 ghost use Rattle.param_read.specs.Reading.{reading};
 ghost use Rattle.receive_perform.specs.Performing.{refusedWith, Fits, Leads};
 ghost use Rattle.receive_count.specs.Counting.{sumsBy, OfCount};
 ghost use Rattle.receive_seek.specs.Seeking.{Seeks};
-ghost use Rattle.receive_segment.specs.Arrival.{arrival, OfVerdict, OfWeighing, blamedBy};
+ghost use Rattle.rules.specs.Summary.{summarySound};
+ghost use Rattle.receive_segment.specs.Arrival.{arrival, OfVerdict, OfWeighing, OfSegment, blamedBy};
 
 // A refusal: the place stays as it is, and nothing is to be written.
 fn refused(number: u8, position: u16, held: Place) -> Verdict
@@ -98,7 +98,7 @@ fn judge(
 
 // The answer to a segment, refused or taken, with the table as it is left.
 fn received(t: Table, v: Verdict) -> Received
-    ensures { λ r. ⌜ r ≡ record { table = t; decision = v .decision; position = v .position; refusal = v .refusal; records = v .records } ⌝ }
+    ensures { λ r. ⌜ r ≡ record { table = t; decision = v .decision; position = v .position; refusal = v .refusal; records = v .records; timeouts = 0 } ⌝ }
 {
     let decision = v.decision;
     Received {
@@ -107,6 +107,7 @@ fn received(t: Table, v: Verdict) -> Received
         position: v.position,
         refusal: v.refusal,
         records: v.records,
+        timeouts: 0,
     }
 }
 
@@ -164,21 +165,22 @@ fn tally(m: &mut [u64; rules::SUMMARY], c: Count, association: u16, n: usize, v:
     receive_count::perform(m, c, association, n, v);
 }
 
-// A segment arrives. All is judged, reading only; then the last verdict is performed, and one place of the copy of the table is written. A refusal writes nothing, and its place stays: so
-// there is one end for both, and the copy goes to the answer at once. A later check goes before the first writing.
+// A segment at a table, of which it is known whether it is sound, and whether the summary is beside it. All is judged, reading only; then the last verdict is performed, and one place of
+// the copy of the table is written. A refusal writes nothing, and its place stays: so there is one end for both, and the copy goes to the answer at once. A later check goes before the
+// first writing.
 pub fn segment(
     t: Table,
+    is_sound: bool,
+    is_summed: bool,
     m: &mut [u64; rules::SUMMARY],
     store: &mut [u8],
     report: &mut [u8],
     association: u16,
     s: &[u8],
 ) -> Received
+    requires { ⌜ («is_sound» ≡ sound t) × («is_summed» ≡ summarySound (now m) (t .places)) ⌝ }
     ensures { λ r. ⌜ OfSegment t (now (m .entry)) (now (store .entry)) (now (report .entry)) association (now (s .entry)) r (now (m .exit)) (now (store .exit)) (now (report .exit)) ⌝ }
 {
-    let idle = sound::look_idle(t);
-    let is_sound = sound::is_sound(t, idle);
-    let is_summed = sound::is_summed(t, m);
     let mut next = t;
     let q = receive_seek::seek(t, association, s);
     let at = q.search.at;

@@ -1,26 +1,39 @@
 -- Laws of a sweep: which places are done at turn i, and what those left still give.
 use Prim.Native.Nat.{ℕ, zero, suc, _+_, _*_, _≤_, _<_}
 use mathlib.Core.Path.{_≡_, refl, sym, ap, _∙_}
-use mathlib.Core.Bool.{true, false}
+use mathlib.Core.Bool.{Bool, true, false}
 use mathlib.Core.List.{List, [], _∷_, map, append-nil}
 use native.Mathlib.Nat.{le-of-suc-le-suc, not-suc-le-zero}
 use native.Mathlib.Numerals.{add-one}
 use native.Mathlib.Omega.{arith}
-use lib.ListN.{length, drop, getD, set, drop-of-length-le}
+use lib.ListN.{length, drop, getD, set, length-append, drop-of-length-le}
 use lib.Seq.{set-getD}
 use Rattle.octets.specs.Splice.{splice, Wrote}
 use Rattle.octets.proofs.Splice.{splice-append, splice-length, splice-nil}
+use Rattle.rules.specs.General.{if_then_else_, those}
 use Rattle.rules.specs.Numbers.{placeCount}
-use Rattle.rules.specs.Places.{noPlace, freePlace}
+use Rattle.rules.specs.Places.{noPlace, freePlace, firstFrom, isAt}
 use Rattle.rules.specs.Records.{recordLength, recordsOctets}
 use Rattle.rules.specs.Receiving.{withPlaces}
 use Rattle.rules.specs.Sweep.{lossOf, freedBy, sweep}
 use Rattle.rules.proofs.Lists.{left}
+use Rattle.rules.specs.declared.Found.the-variants.{At}
 use Rattle.rules.specs.declared.Place.{Place}
 use Rattle.rules.specs.declared.Swept.{Swept}
 use Rattle.rules.specs.declared.Table.{Table}
 use Rattle.receive_sweep.specs.Sweeping.{testOf, causeOf, losses, sweptBy}
 use Rattle.receive_sweep.specs.declared.Test.{Test}
+
+-- where no place passes a test
+pub none-those : (test : Place → Bool) (ps : List Place) (i : ℕ) → isAt (firstFrom test ps i) ≡ false → (those test ps ≡ []) × (map (freedBy test) ps ≡ ps)
+none-those test [] i e = (refl, refl)
+none-those test (p ∷ ps) i e = go (test p) refl e (none-those test ps (i + 1))
+  where
+    go : (b : Bool) → test p ≡ b → isAt (if b then At i else firstFrom test ps (i + 1)) ≡ false
+        → (isAt (firstFrom test ps (i + 1)) ≡ false → (those test ps ≡ []) × (map (freedBy test) ps ≡ ps))
+        → (those test (p ∷ ps) ≡ []) × (map (freedBy test) (p ∷ ps) ≡ p ∷ ps)
+    go true t f more = let z : _≡_ {A = ℕ} 0 1 = cc in absurd (omega arith)
+    go false t f more = (rw (t, more f .0), rw (t, more f .1))
 
 -- l with f done to its first i elements
 abbrev done : {A : Type 0} → (A → A) → ℕ → List A → List A
@@ -59,6 +72,7 @@ pub record Sofar (which : Test) (t : Table) (whole : List ℕ) (i n : ℕ) (next
   pub area : length report ≡ length whole
   pub table : next ≡ withPlaces t (done (freedBy (testOf which)) i (t .places))
   pub counted : n + length (losses which (drop i (t .places))) ≡ length (losses which (t .places))
+  pub sized : recordLength * n + length (recordsOctets (losses which (drop i (t .places)))) ≡ length (recordsOctets (losses which (t .places)))
   pub written : splice report (recordLength * n) (recordsOctets (losses which (drop i (t .places)))) ≡ splice whole 0 (recordsOctets (losses which (t .places)))
 
 module _ {which : Test} {t : Table} {whole : List ℕ} {i n : ℕ} {next : Table} {report : List ℕ} (s : Sofar which t whole i n next report) where
@@ -95,6 +109,7 @@ module _ {which : Test} {t : Table} {whole : List ℕ} {i n : ℕ} {next : Table
           area = rw (w .stored, splice-length) (s .area);
           table = rw (s .table, done-turn (freedBy (testOf which)) i (t .places) noPlace free here (e ∙ simp d));
           counted = omega (arith, ap length (left-due d));
+          sized = omega (arith, v .place, simp length-append at (rw (left-due d) at (s .sized)));
           written = rw (v .stored, v .place, ← splice-append) (rw (left-due d) at (s .written));
         }
 
@@ -109,21 +124,26 @@ module _ {which : Test} {t : Table} {whole : List ℕ} {i n : ℕ} {next : Table
           area = s .area;
           table = s .table ∙ rw (done-same (freedBy (testOf which)) i (t .places) noPlace here (simp d));
           counted = rw (← left-kept d) (s .counted);
+          sized = rw (← left-kept d) (s .sized);
           written = rw (← left-kept d) (s .written);
         }
 
-  module _ (h : placeCount ≤ i) (time : ℕ) where
+  module _ (h : placeCount ≤ i) where
     end : drop i (t .places) ≡ []
     end = drop-of-length-le (t .places) {i = i} (omega arith)
 
     -- after the last turn
-    pub all-answered : _≡_ {A = Swept} (record { table = record { places = next .places; registry = next .registry; timer = next .timer; clock = time }; refusal = 0; records = n })
+    pub all-answered : (time : ℕ) → _≡_ {A = Swept} (record { table = record { places = next .places; registry = next .registry; timer = next .timer; clock = time }; refusal = 0; records = n })
         (sweptBy which time t whole .answer)
     unfolding sweep losses
-    all-answered =
+    all-answered time =
         let all : n ≡ length (losses which (t .places)) = omega (arith, rw end at (s .counted)) in
         rw (all, s .table, done-all (freedBy (testOf which)) i (t .places) (omega arith))
 
-    pub all-reported : report ≡ sweptBy which time t whole .report
+    pub all-reported : (time : ℕ) → report ≡ sweptBy which time t whole .report
     unfolding sweep losses
-    all-reported = sym (splice-nil _ _) ∙ rw end at (s .written)
+    all-reported time = sym (splice-nil _ _) ∙ rw end at (s .written)
+
+    pub all-sized : length (recordsOctets (losses which (t .places))) ≡ recordLength * n
+    unfolding losses
+    all-sized = omega (arith, rw end at (s .sized))

@@ -6,11 +6,13 @@ use rules::Table;
 ghost use mathlib.Core.Path.{_≡_};
 ghost use mathlib.Core.List.{[], _∷_};
 ghost use Prim.Native.Nat.{_+_, _*_, _≤_};
+ghost use lib.ListN.{length};
 ghost use Rattle.octets.specs.Splice.{Wrote};
+ghost use Rattle.rules.specs.Numbers.{placeCount};
 ghost use Rattle.rules.specs.Records.{recordLength, recordsOctets};
 ghost use Rattle.rules.specs.Places.{firstFrom, isAt};
 ghost use Rattle.rules.specs.Sweep.{lossOf};
-ghost use Rattle.receive_sweep.specs.Sweeping.{testOf, causeOf, sweptBy};
+ghost use Rattle.receive_sweep.specs.Sweeping.{testOf, causeOf, losses, sweptBy};
 
 // Which sequences a sweep loses: those too old at a time, or those of an association.
 pub enum Test {
@@ -63,10 +65,11 @@ fn put_loss(report: &mut [u8], n: usize, which: Test, p: Place)
     receive_report::put_record(report, rules::RECORD * n, r);
 }
 
-// Loses what is due of a table, in place order, and sets its clock. What is not due is not touched.
+// Loses what is due of a table, in place order, and sets its clock. What is not due is not touched. All records have one length.
 pub fn swept(t: Table, report: &mut [u8], time: u32, which: Test) -> Swept
     ensures { λ r. ⌜ r ≡ sweptBy which time t (now (report .entry)) .answer ⌝ }
     ensures { λ _. ⌜ now (report .exit) ≡ sweptBy which time t (now (report .entry)) .report ⌝ }
+    ensures { λ r. ⌜ (r .records ≤ placeCount) × (length (recordsOctets (losses which (t .places))) ≡ recordLength * r .records) ⌝ }
 {
     let mut next = t;
     let mut n: usize = 0;

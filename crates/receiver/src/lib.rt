@@ -1,7 +1,7 @@
 // Receiving: the calls of the paper's section, under one roof.
 
-// A segment arrives.
-pub use receive_segment::segment;
+// A segment arrives at a time: the clock's work, and then the segment's.
+pub use receive_arrival::arrival;
 
 // The clock goes on, and every sequence that has grown too old is lost.
 pub use receive_clock::clock;

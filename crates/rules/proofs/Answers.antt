@@ -69,7 +69,7 @@ module _ (t : Table) (m report : List ℕ) where
   release-by association P carried refused = release-with association (λ (o : Counted Sweeping). P (o .call)) carried refused
 
 -- what is left where none of a call's checks applies: the summary is sound, none of the table's own applies, there is a row, and every total has room
-holds-not : (b : Bool) (n : ℕ) → accepted ((n when not b) ∷ []) ≡ true → b ≡ true
+pub holds-not : (b : Bool) (n : ℕ) → accepted ((n when not b) ∷ []) ≡ true → b ≡ true
 holds-not b n e = not-false b (accepted-one (n when not b) e)
 
 pub record Accepted (m : List ℕ) (ps : List Place) (checks : List Check) (m′ : List ℕ) : Type 0 where

@@ -34,7 +34,7 @@ vacant-left false b e h = cc
 
 module _ (t : Table) (store report : List ℕ) (association : ℕ) (s : List ℕ) (e : accepted (segmentChecks t store report association s) ≡ true) where
   abbrev three : List Check
-  three = lentChecks (sound t) (length store) (length report)
+  three = lentChecks recordLength (sound t) (length store) (length report)
 
   abbrev ten : List Check
   ten = 10 when (isStart (lineFor t association s) && not (isAt (lowestFree (t .places)))) ∷ []
@@ -42,13 +42,13 @@ module _ (t : Table) (store report : List ℕ) (association : ℕ) (s : List ℕ
   pub arrived : Arrived t store report association s
   unfolding segmentChecks
   arrived =
-      let outer = accepted-both (three ++ readingChecks (t .registry) s) ten e in
-      let inner = accepted-both three (readingChecks (t .registry) s) (outer .0) in
-      let all = simp and-eq-true-iff at (inner .0) in
+      let outer = accepted-both three (readingChecks (t .registry) s ++ ten) e in
+      let inner = accepted-both (readingChecks (t .registry) s) ten (outer .1) in
+      let all = simp and-eq-true-iff at (outer .0) in
       record {
         table = not-false _ (not-true _ (all .0));
         stores = ltb-false _ _ (not-true _ (all .1 .0));
         reports = ltb-false _ _ (not-true _ (all .1 .1 .0));
-        reading = inner .1;
-        vacant = vacant-left _ _ ((simp and-eq-true-iff at (outer .1)) .0);
+        reading = inner .0;
+        vacant = vacant-left _ _ ((simp and-eq-true-iff at (inner .1)) .0);
       }

@@ -24,6 +24,8 @@ pub mod Rows
 pub mod Fitting
 pub mod Seats
 pub mod Least
+pub mod Arrival
+pub mod Few
 pub mod Shortest
 pub mod Blamed
 pub mod Alike

@@ -8,7 +8,7 @@ use lib.ListN.{length, take, drop, getD, replicate, length-append, length-take, 
 use lib.Seq.{take-at, drop-at, drop-drop, getD-drop}
 use Rattle.octets.specs.Number.{bigEndian}
 use Rattle.octets.specs.Splice.{splice}
-use Rattle.octets.proofs.Splice.{splice-is}
+use Rattle.octets.proofs.Splice.{splice-is, splice-back}
 use Rattle.octets.proofs.Number.{number-back}
 use Rattle.rules.specs.Numbers.{addressMost}
 use Rattle.rules.specs.Records.{recordLength, addressOf, Filled, FilledKey, recorded, recordedAt, recordOctets, recordFrom, recordsOctets, recordsFrom}
@@ -107,3 +107,39 @@ pub records-back : (rs : List Record) (report : List ℕ) → AllFit rs → reco
 records-back rs report h g =
     let l = records-length rs h in
     rw (splice-is report 0 (recordsOctets rs) (omega arith)) (from-octets rs (drop (0 + length (recordsOctets rs)) report) h)
+
+-- .. and at the front of an area that holds them they are all of it
+pub records-front : (rs : List Record) (report : List ℕ) → AllFit rs → recordLength * length rs ≤ length report
+    → take (length rs * recordLength) (splice report 0 (recordsOctets rs)) ≡ recordsOctets rs
+records-front rs report h g =
+    let l = records-length rs h in
+    let n : length rs * recordLength ≡ length (recordsOctets rs) = omega arith in
+    rw n (splice-back report 0 (recordsOctets rs) (omega arith))
+
+octets-append : (rs qs : List Record) → recordsOctets (rs ++ qs) ≡ recordsOctets rs ++ recordsOctets qs
+octets-append [] qs = refl
+octets-append (r ∷ rs) qs = rw (octets-append rs qs) (sym (append-assoc (recordOctets r) (recordsOctets rs) (recordsOctets qs)))
+
+both-fit : (rs qs : List Record) → AllFit rs → AllFit qs → AllFit (rs ++ qs)
+both-fit [] qs a b = b
+both-fit (r ∷ rs) qs a b = (a .0, both-fit rs qs (a .1) b)
+
+-- two lists of records, the second behind the first: each is read back where it stands, and both are
+module _ (rs qs : List Record) (area : List ℕ) (a : AllFit rs) (b : AllFit qs) (room : recordLength * length qs ≤ length area) where
+  abbrev two : List ℕ
+  two = recordsOctets rs ++ splice area 0 (recordsOctets qs)
+
+  pub first-back : recordsFrom (length rs) two ≡ rs
+  first-back = from-octets rs (splice area 0 (recordsOctets qs)) a
+
+  pub second-there : drop (length rs * recordLength) two ≡ splice area 0 (recordsOctets qs)
+  second-there = let l = records-length rs a in drop-at (recordsOctets rs) (splice area 0 (recordsOctets qs)) (length rs * recordLength) (omega arith)
+
+  pub two-back : recordsFrom (length rs + length qs) two ≡ rs ++ qs
+  two-back =
+      let l = records-length qs b in
+      let rest : List ℕ = drop (0 + length (recordsOctets qs)) area in
+      let is : two ≡ recordsOctets (rs ++ qs) ++ rest
+      = ap (λ (m : List ℕ). recordsOctets rs ++ m) (splice-is area 0 (recordsOctets qs) (omega arith)) ∙ sym (append-assoc (recordsOctets rs) (recordsOctets qs) rest)
+      ∙ ap (λ (m : List ℕ). m ++ rest) (sym (octets-append rs qs)) in
+      rw (is, ← length-append rs qs) (from-octets (rs ++ qs) rest (both-fit rs qs a b))

@@ -80,6 +80,9 @@ accepted-append (x ∷ xs) ys = rw (accepted-append xs ys) (sym (and-assoc (not 
 pub accepted-both : (xs ys : List Check) → accepted (xs ++ ys) ≡ true → (accepted xs ≡ true) × (accepted ys ≡ true)
 accepted-both xs ys e = and-eq-true-iff (accepted xs) (accepted ys) .0 (sym (accepted-append xs ys) ∙ e)
 
+pub both-accepted : (xs ys : List Check) → accepted xs ≡ true → accepted ys ≡ true → accepted (xs ++ ys) ≡ true
+both-accepted xs ys a b = rw (accepted-append xs ys, a, b)
+
 pub accepted-one : (c : Check) → accepted (c ∷ []) ≡ true → c .applies ≡ false
 accepted-one c e = not-true (c .applies) (and-eq-true-iff (not (c .applies)) true .0 e .0)
 
@@ -117,6 +120,13 @@ module _ {A : Type 0} (says : Check → A) (none : A) where
   pub first-none : (xs : List Check) → accepted xs ≡ true → ofFirst says none xs ≡ none
   first-none xs e = ap (ofFirst says none) (sym (append-nil xs)) ∙ first-passed xs [] e
 
+-- .. number and position
+pub fault-passed : (xs ys : List Check) → accepted xs ≡ true → fault (xs ++ ys) ≡ fault ys
+fault-passed xs ys e = λ i. record { number = first-passed (λ (c : Check). c .number) 0 xs ys e i; position = first-passed (λ (c : Check). c .position) nowhere xs ys e i }
+
+pub fault-met : (xs ys : List Check) → accepted xs ≡ false → fault (xs ++ ys) ≡ fault xs
+fault-met xs ys e = λ i. record { number = first-met (λ (c : Check). c .number) 0 xs ys e i; position = first-met (λ (c : Check). c .position) nowhere xs ys e i }
+
 pub accepted-first : (cs : List Check) → accepted cs ≡ true → first cs ≡ 0
 accepted-first cs e = first-none (λ (c : Check). c .number) 0 cs e
 
@@ -140,27 +150,31 @@ fault-first cs f a h = refused fault cs f a h
 pub judged-none : {A : Type 0} (cs : List Check) (f : ℕ → A) (a : A) → Sharp cs → first cs ≡ 0 → judged cs f a ≡ a
 judged-none cs f a sharp e = rw (first-accepted cs sharp e)
 
--- a list whose numbers are at least n, so that a refusal by it is too
-abbrev pub Least : ℕ → List Check → Type 0
-Least n [] = Unit {0}
-Least n (c ∷ cs) = (n ≤ c .number) × Least n cs
+-- a list whose numbers all are such as P says, so that a refusal by it is too
+abbrev pub Each : (ℕ → Type 0) → List Check → Type 0
+Each P [] = Unit {0}
+Each P (c ∷ cs) = P (c .number) × Each P cs
 
-pub least-append : (n : ℕ) (xs ys : List Check) → Least n xs → Least n ys → Least n (xs ++ ys)
-least-append n [] ys a b = b
-least-append n (x ∷ xs) ys a b = (a .0, least-append n xs ys (a .1) b)
+pub each-append : (P : ℕ → Type 0) (xs ys : List Check) → Each P xs → Each P ys → Each P (xs ++ ys)
+each-append P [] ys a b = b
+each-append P (x ∷ xs) ys a b = (a .0, each-append P xs ys (a .1) b)
 
-pub least-if : (n : ℕ) (b : Bool) (xs ys : List Check) → Least n xs → Least n ys → Least n (if b then xs else ys)
-least-if n true xs ys x y = x
-least-if n false xs ys x y = y
+pub each-if : (P : ℕ → Type 0) (b : Bool) (xs ys : List Check) → Each P xs → Each P ys → Each P (if b then xs else ys)
+each-if P true xs ys x y = x
+each-if P false xs ys x y = y
 
-pub least-less : (n m : ℕ) (cs : List Check) → m ≤ n → Least n cs → Least m cs
-least-less n m [] h a = tt
-least-less n m (c ∷ cs) h a = (omega arith, least-less n m cs h (a .1))
+pub each-so : (P Q : ℕ → Type 0) (cs : List Check) → ((n : ℕ) → P n → Q n) → Each P cs → Each Q cs
+each-so P Q [] h a = tt
+each-so P Q (c ∷ cs) h a = (h (c .number) (a .0), each-so P Q cs h (a .1))
 
-pub first-least : (n : ℕ) (cs : List Check) → Least n cs → accepted cs ≡ false → n ≤ first cs
-first-least n [] a e = let z : _≡_ {A = ℕ} 0 1 = cc in omega arith
-first-least n (c ∷ cs) a e = go (c .applies) refl (first-least n cs (a .1))
+pub first-each : (P : ℕ → Type 0) (cs : List Check) → Each P cs → accepted cs ≡ false → P (first cs)
+first-each P [] a e = let z : _≡_ {A = ℕ} 0 1 = cc in absurd (omega arith)
+first-each P (c ∷ cs) a e = go (c .applies) refl (first-each P cs (a .1))
   where
-    go : (b : Bool) → c .applies ≡ b → (accepted cs ≡ false → n ≤ first cs) → n ≤ (if b then c .number else first cs)
+    go : (b : Bool) → c .applies ≡ b → (accepted cs ≡ false → P (first cs)) → P (if b then c .number else first cs)
     go true t later = a .0
     go false t later = later (simp t at e)
+
+-- numbers of at least n
+abbrev pub Least : ℕ → List Check → Type 0
+Least n cs = Each (λ k. n ≤ k) cs

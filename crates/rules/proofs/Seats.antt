@@ -1,15 +1,16 @@
 -- A sound summary stays sound through what a call counts, and an association that has a row keeps it.
-use Prim.Native.Nat.{ℕ, suc, _+_, _*_, _≤_, _<_}
+use Prim.Native.Nat.{ℕ, _+_, _*_, _≤_, _<_}
 use mathlib.Core.Path.{_≡_, refl, sym, _∙_}
 use mathlib.Core.Bool.{Bool, true, false, not, _&&_, _||_, and-eq-true-iff, true≢false}
-use mathlib.Core.List.{List, [], _∷_}
+use mathlib.Core.List.{List, [], _∷_, map}
 use native.Mathlib.Omega.{arith}
-use borrow.Author.Tests.{eqb-true, eqb-false, eq-eqb, ne-eqb, ltb-true, ltb-false, le-leb, not-true, not-false}
+use borrow.Author.Tests.{eqb-true, eqb-false, eq-eqb, ne-eqb, ltb-true, ltb-false, le-leb}
 use lib.Dec.{eqb, leb, ltb}
-use lib.ListN.{length, getD, set, length-set}
+use lib.ListN.{length, set, length-set}
 use lib.Seq.{getD-set-same, getD-set-other}
-use Rattle.rules.specs.General.{every}
-use Rattle.rules.specs.Places.{isOpen, isAt}
+use Rattle.rules.specs.General.{if_then_else_, every}
+use Rattle.rules.specs.Places.{freePlace, isOpen, isAt}
+use Rattle.rules.specs.Sweep.{freedBy}
 use Rattle.rules.specs.Summary.{everyBelow, everyPair, orElse, rowCount, numberAt, isUsed, isUnused, isFor, rowOf, unusedRow, rowFor, rowSound, rowsApart, isSeated, summarySound}
 use Rattle.rules.specs.Summary.{tally, seat, tookAt, took, columnOf, billAt, bill, billed}
 use Rattle.rules.specs.declared.Place.{Place}
@@ -18,7 +19,7 @@ use Rattle.rules.specs.declared.Found.{Found}
 use Rattle.rules.specs.declared.Found.the-variants.{At, Nothing}
 use Rattle.rules.proofs.Below.{below-at, below-from, first-same, first-passes, first-none, first-before, first-is, is-found}
 use Rattle.rules.proofs.Rows.{row-count, row-of-within, row-for-within}
-use Rattle.rules.proofs.Fitting.{length-tally, tally-other, seat-other, length-seat, length-took-at, length-bill, column-within}
+use Rattle.rules.proofs.Fitting.{tally-other, seat-other, column-within}
 
 eqb-turned : (x y : ℕ) → eqb x y ≡ eqb y x
 eqb-turned x y = go (eqb x y) refl
@@ -271,3 +272,19 @@ sound-beside m ps ps′ s e = rows-sound m ps′ (sound-rows m ps s .0) e
 
 pub seats-of : (m : List ℕ) (ps : List Place) → summarySound m ps ≡ true → every (isSeated m) ps ≡ true
 seats-of m ps s = sound-rows m ps s .1
+
+-- what a sweep leaves: a place that it frees needs no row
+pub freed-seats : (m : List ℕ) (test : Place → Bool) (ps : List Place) → every (isSeated m) ps ≡ true → every (isSeated m) (map (freedBy test) ps) ≡ true
+freed-seats m test [] h = refl
+freed-seats m test (p ∷ ps) h =
+    let both = and-eq-true-iff (isSeated m p) (every (isSeated m) ps) .0 h in
+    rw (go (test p) (both .0), freed-seats m test ps (both .1))
+  where
+    go : (b : Bool) → isSeated m p ≡ true → isSeated m (if b then freePlace else p) ≡ true
+    go true e = refl
+    go false e = e
+
+pub swept-seats : (m : List ℕ) (rs : List Record) (test : Place → Bool) (ps : List Place) → summarySound m ps ≡ true → summarySound (billed m rs) (map (freedBy test) ps) ≡ true
+swept-seats m rs test ps s =
+    let sums = billed-sound m rs ps s in
+    sound-beside (billed m rs) ps _ sums (freed-seats (billed m rs) test ps (seats-of (billed m rs) ps sums))

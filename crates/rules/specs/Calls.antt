@@ -5,7 +5,8 @@ use Rattle.rules.specs.Refusals.{nowhere, unplaced}
 use Rattle.rules.specs.Receiving.{Reception}
 use Rattle.rules.specs.Sweep.{Sweeping}
 use Rattle.rules.specs.Opening.{opening}
-use Rattle.rules.specs.Summary.{Counted, segmentWith, clockWith, releaseWith, emptySummary}
+use Rattle.rules.specs.Summary.{Counted, clockWith, releaseWith, emptySummary}
+use Rattle.rules.specs.Arrival.{arrival}
 use Rattle.rules.specs.Sending.{Sending, sending}
 use Rattle.rules.specs.declared.Fault.{Fault}
 use Rattle.rules.specs.declared.Table.{Table}
@@ -29,6 +30,7 @@ pub record Opening : Type 0 where
   pub time : ℕ
 
 pub record Arrival : Type 0 where
+  pub time : ℕ
   pub association : ℕ
   pub parameter : List ℕ
   pub report : List ℕ
@@ -59,8 +61,8 @@ pub data Call : Type 0 where
 abbrev pub toOpen : List ℕ → ℕ → ℕ → Call
 toOpen registry timer time = Opens (record { registry = registry; timer = timer; time = time })
 
-abbrev pub toArrive : ℕ → List ℕ → List ℕ → Call
-toArrive association s report = Arrives (record { association = association; parameter = s; report = report })
+abbrev pub toArrive : ℕ → ℕ → List ℕ → List ℕ → Call
+toArrive time association s report = Arrives (record { time = time; association = association; parameter = s; report = report })
 
 abbrev pub toTick : ℕ → List ℕ → Call
 toTick time report = Ticks (record { time = time; report = report })
@@ -86,26 +88,27 @@ lentOf (Ticks x) = lending (x .report) []
 lentOf (Releases x) = lending (x .report) []
 lentOf (Sends x) = lending [] (x .area)
 
--- what a call decided: of a segment, its decision; no other call has one
+-- what a call decided: of an arrival, its segment's decision; no other call has one
 pub data Decided : Type 0 where
   Undecided : Decided
   As : Decision → Decided
 
--- all that a call answers, with the areas after it; what it has no part in is 0, and its position nowhere
+-- all that a call answers, with the areas after it; of an arrival's records, how many are the clock's: they stand first. What a call has no part in is 0, and its position nowhere
 pub record Answer : Type 0 where
   pub refusal : ℕ
   pub position : ℕ
   pub records : ℕ
+  pub timeouts : ℕ
   pub decided : Decided
   pub count : ℕ
   pub length : ℕ
   pub lent : Lent
 
-abbrev pub answering : Fault → ℕ → Decided → Lent → Answer
-answering x records decided lent =
-    record { refusal = x .number; position = x .position; records = records; decided = decided; count = 0; length = 0; lent = lent }
+abbrev pub answering : Fault → ℕ → ℕ → Decided → Lent → Answer
+answering x records timeouts decided lent =
+    record { refusal = x .number; position = x .position; records = records; timeouts = timeouts; decided = decided; count = 0; length = 0; lent = lent }
 
--- a refused call's: its number, and of a segment that it is refused, and where
+-- a refused call's: its number, and of an arrival that its segment is refused, and where
 abbrev pub refusedAs : Call → Decided
 refusedAs (Opens x) = Undecided
 refusedAs (Arrives x) = As Refused
@@ -114,20 +117,20 @@ refusedAs (Releases x) = Undecided
 refusedAs (Sends x) = Undecided
 
 abbrev pub refusing : Fault → Call → Answer
-refusing x c = answering x 0 (refusedAs c) (lentOf c)
+refusing x c = answering x 0 0 (refusedAs c) (lentOf c)
 
 pub record Outcome : Type 0 where
   pub answer : Answer
   pub state : State
 
 abbrev pub afterOpening : List ℕ → Opened → Outcome
-afterOpening store o = record { answer = answering (unplaced (o .refusal)) 0 Undecided (lending [] []); state = stateOf (o .table) emptySummary store }
+afterOpening store o = record { answer = answering (unplaced (o .refusal)) 0 0 Undecided (lending [] []); state = stateOf (o .table) emptySummary store }
 
-abbrev pub afterSegment : Counted Reception → Outcome
-afterSegment o =
+abbrev pub afterArrival : Counted Reception → Outcome
+afterArrival o =
     record {
       answer =
-          answering (record { number = o .call .answer .refusal; position = o .call .answer .position }) (o .call .answer .records)
+          answering (record { number = o .call .answer .refusal; position = o .call .answer .position }) (o .call .answer .records) (o .call .answer .timeouts)
           (As (o .call .answer .decision)) (lending (o .call .report) []);
       state = stateOf (o .call .answer .table) (o .summary) (o .call .store);
     }
@@ -135,20 +138,20 @@ afterSegment o =
 abbrev pub afterSweep : List ℕ → Counted Sweeping → Outcome
 afterSweep store o =
     record {
-      answer = answering (unplaced (o .call .answer .refusal)) (o .call .answer .records) Undecided (lending (o .call .report) []);
+      answer = answering (unplaced (o .call .answer .refusal)) (o .call .answer .records) 0 Undecided (lending (o .call .report) []);
       state = stateOf (o .call .answer .table) (o .summary) store;
     }
 
 abbrev pub afterSending : State → Sending → Outcome
 afterSending st o =
     record {
-      answer = record { refusal = o .answer .refusal; position = nowhere; records = 0; decided = Undecided; count = o .answer .count; length = o .answer .length; lent = lending [] (o .area) };
+      answer = record { refusal = o .answer .refusal; position = nowhere; records = 0; timeouts = 0; decided = Undecided; count = o .answer .count; length = o .answer .length; lent = lending [] (o .area) };
       state = st;
     }
 
 unfoldable pub step : State → Call → Outcome
 step st (Opens x) = afterOpening (st .store) (opening (x .registry) (x .timer) (x .time))
-step st (Arrives x) = afterSegment (segmentWith (st .table) (st .summary) (st .store) (x .report) (x .association) (x .parameter))
+step st (Arrives x) = afterArrival (arrival (st .table) (st .summary) (st .store) (x .report) (x .time) (x .association) (x .parameter))
 step st (Ticks x) = afterSweep (st .store) (clockWith (st .table) (st .summary) (x .report) (x .time))
 step st (Releases x) = afterSweep (st .store) (releaseWith (st .table) (st .summary) (x .report) (x .association))
 step st (Sends x) = afterSending st (sending (st .table) (x .request) (x .origin) (x .destination) (x .whole) (x .area))

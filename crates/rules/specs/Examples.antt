@@ -8,7 +8,9 @@ use Rattle.rules.specs.Numbers.{storeLeast}
 use Rattle.rules.specs.Refusals.{nowhere}
 use Rattle.rules.specs.Records.{recordLength}
 use Rattle.rules.specs.Places.{isOpen}
-use Rattle.rules.specs.Receiving.{Reception, segment}
+use Rattle.rules.specs.Receiving.{Reception}
+use Rattle.rules.specs.Summary.{Counted, emptySummary}
+use Rattle.rules.specs.Arrival.{arrivalLeast, arrival}
 use Rattle.rules.specs.Delivery.{delivery}
 use Rattle.rules.specs.Opening.{opening}
 use Rattle.rules.specs.Sending.{Sending, sending}
@@ -47,11 +49,12 @@ seenOf s o =
       opened = length (those isOpen (o .answer .table .places));
     }
 
-abbrev pub seenFrom : Table → List ℕ → List (List ℕ) → List Seen
-seenFrom t store [] = []
-seenFrom t store (s ∷ rest) =
-    let o : Reception = segment t store (replicate recordLength 0xEE) 9 s in
-    seenOf s o ∷ seenFrom (o .answer .table) (o .store) rest
+-- each arrives at the table's own time
+abbrev pub seenFrom : Table → List ℕ → List ℕ → List (List ℕ) → List Seen
+seenFrom t m store [] = []
+seenFrom t m store (s ∷ rest) =
+    let o : Counted Reception = arrival t m store (replicate arrivalLeast 0xEE) (t .clock) 9 s in
+    seenOf s (o .call) ∷ seenFrom (o .call .answer .table) (o .summary) (o .call .store) rest
 
 abbrev madeOf : Sending → Result
 madeOf o = Made (o .answer .refusal) (o .answer .count) (o .answer .length) (take (o .answer .length) (o .area))
@@ -61,7 +64,7 @@ asked room1 room number =
     record { context = record { 0 = 3 }; instruction = 0; reference = record { 0 = 5 }; room1 = room1; room = room; number = number }
 
 abbrev pub resultOf : Case → Result
-resultOf (Receives parameters) = Saw (seenFrom fresh (replicate storeLeast 0) parameters)
+resultOf (Receives parameters) = Saw (seenFrom fresh emptySummary (replicate storeLeast 0) parameters)
 resultOf (Cuts whole room1 room k) = madeOf (sending fresh (asked room1 room k) [] [] whole (replicate 255 0xEE))
 
 -- a refusal at a position, with no place open; a save, with so many open; a record that ends a sequence, with the octets that it delivers

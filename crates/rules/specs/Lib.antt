@@ -8,6 +8,7 @@
 --   Refusal numbers                             Refusals (how a number and a position are found), each call's own list beside the call; Soundness (what sound means); Blame (what a position tells)
 --   What the contracts have to say              Promises
 --   Examples on each side                       Examples; the replay program: Trace (the walk), Lines (what it prints); beside it, the program records: Listing
+-- Of document 02: A1 in Summary, A2 and A5 in Layout, A3 in Places and Records, A6 in Arrival.
 pub mod General
 pub mod Numbers
 pub mod Refusals
@@ -22,6 +23,7 @@ pub mod Delivery
 pub mod Sweep
 pub mod Opening
 pub mod Summary
+pub mod Arrival
 pub mod Sending
 pub mod Calls
 pub mod Promises

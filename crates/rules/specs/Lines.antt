@@ -13,7 +13,7 @@ use Rattle.rules.specs.declared.Record.{Record}
 -- the names, in ASCII: open, segment, clock, release, stop
 abbrev pub nameOf : Event → List ℕ
 nameOf (Opening timer time) = 111 ∷ 112 ∷ 101 ∷ 110 ∷ []
-nameOf (Segment association s) = 115 ∷ 101 ∷ 103 ∷ 109 ∷ 101 ∷ 110 ∷ 116 ∷ []
+nameOf (Segment time association s) = 115 ∷ 101 ∷ 103 ∷ 109 ∷ 101 ∷ 110 ∷ 116 ∷ []
 nameOf (Clock time) = 99 ∷ 108 ∷ 111 ∷ 99 ∷ 107 ∷ []
 nameOf (Release association) = 114 ∷ 101 ∷ 108 ∷ 101 ∷ 97 ∷ 115 ∷ 101 ∷ []
 
@@ -58,7 +58,7 @@ positionWord at = numberUnless nowhere at
 
 abbrev pub positionField : Event → ℕ → List ℕ
 positionField (Opening timer time) at = []
-positionField (Segment association s) at = 32 ∷ positionWord at
+positionField (Segment time association s) at = 32 ∷ positionWord at
 positionField (Clock time) at = []
 positionField (Release association) at = []
 

@@ -8,7 +8,7 @@ use Rattle.rules.specs.Records.{delivered}
 use Rattle.rules.specs.Places.{isOpen}
 use Rattle.rules.specs.Sweep.{lossesBy}
 use Rattle.rules.specs.Calls.{Decided, Undecided, As}
-use Rattle.rules.specs.Trace.{isOpening, Sight, Observer, watching}
+use Rattle.rules.specs.Trace.{Event, Opening, Segment, Clock, Release, isOpening, Sight, Observer, watching}
 use Rattle.rules.specs.Lines.{field, dash, numberUnless, stopIf, counted, eventFields, recordsBy}
 use Rattle.rules.specs.declared.Address.{Address}
 use Rattle.rules.specs.declared.Place.{Place}
@@ -95,9 +95,16 @@ decisionWord (Lost cause p) = lostWord
 abbrev pub endWord : ℕ → Decision → List ℕ
 endWord refusal d = if eqb refusal 0 then decisionWord d else refusedWord ++ field refusal
 
--- an event's line: replay's fields, its number, what became of it
-abbrev pub numberedLine : List ℕ → ℕ → ℕ → Decision → List ℕ
-numberedLine fields n refusal d = fields ++ field n ++ (32 ∷ endWord refusal d) ++ (10 ∷ [])
+-- of a segment's line, how many of its records are the clock's (document 02, A6)
+abbrev pub timeoutsField : Event → ℕ → List ℕ
+timeoutsField (Opening timer time) n = []
+timeoutsField (Segment time association s) n = field n
+timeoutsField (Clock time) n = []
+timeoutsField (Release association) n = []
+
+-- an event's line: replay's fields, its number, the clock's records of it, what became of it
+abbrev pub numberedLine : List ℕ → ℕ → List ℕ → ℕ → Decision → List ℕ
+numberedLine fields n timeouts refusal d = fields ++ field n ++ timeouts ++ (32 ∷ endWord refusal d) ++ (10 ∷ [])
 
 -- an opening, refused or not, makes no record of what it drops
 abbrev pub droppedBy : Sight → List ℕ
@@ -107,7 +114,8 @@ abbrev pub listing : Observer ℕ
 listing =
     record {
       tells = λ n s.
-          numberedLine (eventFields (s .event) (s .outcome .answer)) (counted n) (s .outcome .answer .refusal) (decisionIn (s .outcome .answer .decided))
+          numberedLine (eventFields (s .event) (s .outcome .answer)) (counted n) (timeoutsField (s .event) (s .outcome .answer .timeouts)) (s .outcome .answer .refusal)
+          (decisionIn (s .outcome .answer .decided))
           ++ recordLines (recordsBy (s .outcome .answer))
           ++ droppedBy s;
       keeps = λ n s. counted n;

@@ -4,7 +4,8 @@ use mathlib.Core.Path.{_≡_}
 use mathlib.Core.List.{List}
 use Rattle.rules.specs.Delivery.{delivery}
 use Rattle.rules.specs.Opening.{opening}
-use Rattle.rules.specs.Summary.{segmentWith, clockWith, releaseWith, emptySummary}
+use Rattle.rules.specs.Summary.{clockWith, releaseWith, emptySummary}
+use Rattle.rules.specs.Arrival.{arrival}
 use Rattle.rules.specs.Sending.{sending}
 use Rattle.rules.specs.declared.Table.{Table}
 use Rattle.rules.specs.declared.Request.{Request}
@@ -18,11 +19,11 @@ pub record OfOpening (registry : List ℕ) (timer time : ℕ) (answer : Opened) 
   pub answered : answer ≡ opening registry timer time
   pub summed : m′ ≡ emptySummary
 
-pub record OfSegment (t : Table) (m store report : List ℕ) (association : ℕ) (s : List ℕ) (answer : Received) (m′ store′ report′ : List ℕ) : Type 0 where
-  pub answered : answer ≡ segmentWith t m store report association s .call .answer
-  pub summed : m′ ≡ segmentWith t m store report association s .summary
-  pub stored : store′ ≡ segmentWith t m store report association s .call .store
-  pub reported : report′ ≡ segmentWith t m store report association s .call .report
+pub record OfArrival (t : Table) (m store report : List ℕ) (time association : ℕ) (s : List ℕ) (answer : Received) (m′ store′ report′ : List ℕ) : Type 0 where
+  pub answered : answer ≡ arrival t m store report time association s .call .answer
+  pub summed : m′ ≡ arrival t m store report time association s .summary
+  pub stored : store′ ≡ arrival t m store report time association s .call .store
+  pub reported : report′ ≡ arrival t m store report time association s .call .report
 
 pub record OfClock (t : Table) (m report : List ℕ) (time : ℕ) (answer : Swept) (m′ report′ : List ℕ) : Type 0 where
   pub answered : answer ≡ clockWith t m report time .call .answer

@@ -153,25 +153,30 @@ lineAt t key g n =
     let p : Place = placeAt (t .places) place in
     lineOf (isAt place) (p .remaining .0) (p .octets) g n
 
--- the table and the lent areas, by their lengths
-abbrev pub lentChecks : Bool → ℕ → ℕ → List Check
-lentChecks sound store report =
+-- the table and the lent areas, by their lengths; the report area has a least one
+abbrev pub lentChecks : ℕ → Bool → ℕ → ℕ → List Check
+lentChecks least sound store report =
     1 when not sound ∷
     2 for store under storeLeast ∷
-    3 for report under recordLength ∷ []
+    3 for report under least ∷ []
 
 -- where the line takes it: line 3 applies and no place is free
 abbrev pub takingChecks : Line → List Place → List Check
 takingChecks line ps =
     10 when (isStart line && not (isAt (lowestFree ps))) ∷ []
 
--- Segment: 1, 2, 3, 4, then 5 to 9 and 23 by the octets, then 10
+-- the segment's own: 4, then 5 to 9 and 23 by the octets, then 10
+abbrev pub ownChecks : Table → ℕ → List ℕ → List Check
+ownChecks t association s =
+    let f : Fields = fieldsOf (t .registry) s in
+    readingChecks (t .registry) s
+    ++ takingChecks (lineAt t (keyOf association s f) (f .heading) (length (informationOf s f))) (t .places)
+
+-- Segment: 1, 2, 3, and its own. It is called as the second part of an arrival: Arrival
 unfoldable pub segmentChecks : Table → List ℕ → List ℕ → ℕ → List ℕ → List Check
 segmentChecks t store report association s =
-    let f : Fields = fieldsOf (t .registry) s in
-    lentChecks (sound t) (length store) (length report)
-    ++ readingChecks (t .registry) s
-    ++ takingChecks (lineAt t (keyOf association s f) (f .heading) (length (informationOf s f))) (t .places)
+    lentChecks recordLength (sound t) (length store) (length report)
+    ++ ownChecks t association s
 
 -- what a call leaves: its answer, the store and the report area; and the records that it made
 pub record Reception : Type 0 where
@@ -184,7 +189,7 @@ pub record Reception : Type 0 where
 abbrev pub receptionOf : Table → List ℕ → Effect → Reception
 receptionOf t report e =
     record {
-      answer = record { table = withPlaces t (e .places); decision = e .decision; position = nowhere; refusal = 0; records = length (e .records) };
+      answer = record { table = withPlaces t (e .places); decision = e .decision; position = nowhere; refusal = 0; records = length (e .records); timeouts = 0 };
       store = e .store;
       report = splice report 0 (recordsOctets (e .records));
       made = e .records;
@@ -202,7 +207,7 @@ receivedAt t store report association s =
 -- a refusal returns its number and position, the table as it came, zero records, and no lent octet is altered
 abbrev pub unreceived : Table → List ℕ → List ℕ → Fault → Reception
 unreceived t store report x =
-    record { answer = record { table = t; decision = Refused; position = x .position; refusal = x .number; records = 0 }; store = store; report = report; made = [] }
+    record { answer = record { table = t; decision = Refused; position = x .position; refusal = x .number; records = 0; timeouts = 0 }; store = store; report = report; made = [] }
 
 unfoldable pub segment : Table → List ℕ → List ℕ → ℕ → List ℕ → Reception
 segment t store report association s =

@@ -8,7 +8,7 @@ use Rattle.octets.specs.Number.{number}
 use Rattle.rules.specs.General.{if_then_else_}
 use Rattle.rules.specs.Numbers.{storeLeast}
 use Rattle.rules.specs.Layout.{octet}
-use Rattle.rules.specs.Sweep.{reportLeast}
+use Rattle.rules.specs.Arrival.{arrivalLeast}
 use Rattle.rules.specs.Opening.{unopened}
 use Rattle.rules.specs.Summary.{emptySummary}
 use Rattle.rules.specs.Calls.{State, stateOf, Call, toOpen, toArrive, toTick, toRelease, Lent, lending, Answer, Outcome, step}
@@ -20,13 +20,13 @@ isKnown kind = eqb kind 1 || eqb kind 2 || (leb 32 kind && leb kind 35)
 abbrev pub bodyLength : ℕ → ℕ
 bodyLength kind =
     if eqb kind 32 then 8 else
-    if eqb kind 33 then 258 else
+    if eqb kind 33 then 262 else
     if eqb kind 34 then 4 else 2
 
--- what prints a line: an open (T, clock), a segment (association, parameter), the clock (time), a release (association)
+-- what prints a line: an open (T, clock), a segment (time, association, parameter), the clock (time), a release (association)
 pub data Event : Type 0 where
   Opening : ℕ → ℕ → Event
-  Segment : ℕ → List ℕ → Event
+  Segment : ℕ → ℕ → List ℕ → Event
   Clock : ℕ → Event
   Release : ℕ → Event
 
@@ -39,7 +39,7 @@ pub data Item : Type 0 where
 abbrev pub itemOf : ℕ → List ℕ → Item
 itemOf kind body =
     if eqb kind 32 then Happens (Opening (number (take 4 body)) (number (drop 4 body))) else
-    if eqb kind 33 then Happens (Segment (number (take 2 body)) (take (octet body 2) (drop 3 body))) else
+    if eqb kind 33 then Happens (Segment (number (take 4 body)) (number (take 2 (drop 4 body))) (take (octet body 6) (drop 7 body))) else
     if eqb kind 34 then Happens (Clock (number body)) else
     if eqb kind 35 then Happens (Release (number body)) else
     Registers (kind ∷ body)
@@ -67,19 +67,19 @@ beginning =
       registry = [];
       begun = false;
       state = stateOf unopened emptySummary (replicate storeLeast 0);
-      lent = lending (replicate reportLeast 0) [];
+      lent = lending (replicate arrivalLeast 0) [];
     }
 
 -- every open uses the whole registry as read
 abbrev pub callOf : Replay → Event → Call
 callOf r (Opening timer time) = toOpen (r .registry) timer time
-callOf r (Segment association s) = toArrive association s (r .lent .report)
+callOf r (Segment time association s) = toArrive time association s (r .lent .report)
 callOf r (Clock time) = toTick time (r .lent .report)
 callOf r (Release association) = toRelease association (r .lent .report)
 
 abbrev pub isOpening : Event → Bool
 isOpening (Opening timer time) = true
-isOpening (Segment association s) = false
+isOpening (Segment time association s) = false
 isOpening (Clock time) = false
 isOpening (Release association) = false
 

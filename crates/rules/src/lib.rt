@@ -1,7 +1,7 @@
 // The types of document 01. No code: what the calls do with them is in specs/; specs/Lib.antt says which section of the paper is where.
 
-// The paper's numbers, each here alone: places, the octets of a place's stretch of the store, of the store, of a record and of a report for every place; the most octets of data, of a
-// parameter and of an address.
+// The paper's numbers, each here alone: places, the octets of a place's stretch of the store, of the store, of a record, of a report for every place and of one for an arrival; the most
+// octets of data, of a parameter and of an address.
 pub const PLACES: usize = 16;
 
 pub const STRETCH: usize = 2048;
@@ -11,6 +11,8 @@ pub const STORE: usize = PLACES * STRETCH;
 pub const RECORD: usize = 53;
 
 pub const REPORT: usize = PLACES * RECORD;
+
+pub const REPORT_ARRIVAL: usize = (PLACES + 1) * RECORD;
 
 pub const DATA: usize = 2048;
 
@@ -157,13 +159,14 @@ pub enum Decision {
     Lost(u8, Found),
 }
 
-// The answers of the calls. A refusal of 0 is none; a segment's has the position of the octet at fault too, or NOWHERE.
+// The answers of the calls. A refusal of 0 is none; an arrival's has the position of the octet at fault too, or NOWHERE, and how many of the records are the clock's: they stand first.
 pub struct Received {
     pub table: Table,
     pub decision: Decision,
     pub position: u16,
     pub refusal: u8,
     pub records: u8,
+    pub timeouts: u8,
 }
 
 #[repr(C)]

@@ -16,8 +16,10 @@ use Rattle.rules.specs.Calls.{Lent, Answer, step}
 use Rattle.rules.specs.Trace.{Event, Opening, Segment, Clock, Release, Item, Registers, Happens, isKnown, bodyLength, itemOf, isOpening, lentAfter}
 use Rattle.rules.specs.Layout.{octet}
 use Rattle.rules.specs.Lines.{recordsBy, eventFields, counted}
+use Rattle.rules.specs.Listing.{timeoutsField}
 use Rattle.rules.specs.Totalling.{headingLine, rowLines}
 use Rattle.trace_lines.specs.Printing.{countsFor, fieldsFor}
+use Rattle.trace_records.specs.Listing.{timeoutsFor}
 use Rattle.trace_items.proofs.Items.{item-by}
 use Rattle.trace_events.specs.Events.{Stored, stateWith, replayOf, stepOf}
 use Rattle.trace_events.specs.declared.Replay.{Replay}
@@ -88,20 +90,26 @@ module _ (held : Replay) (store : Stored) (lent : Lent) where
   fields-is : (e : Event) → fieldsFor (kindOf e) (answer e .refusal) (answer e .position) (answer e .records) (lentAfter (replayOf held store lent) e (answer e) .report) ≡ eventFields e (answer e)
   unfolding fieldsFor countsFor eventFields step
   fields-is (Opening timer time) = refl
-  fields-is (Segment association s) = refl
+  fields-is (Segment time association s) = refl
   fields-is (Clock time) = refl
   fields-is (Release association) = refl
 
   records-are : (e : Event) → recordsFrom (answer e .records) (lentAfter (replayOf held store lent) e (answer e) .report) ≡ recordsBy (answer e)
   unfolding step
   records-are (Opening timer time) = refl
-  records-are (Segment association s) = refl
+  records-are (Segment time association s) = refl
   records-are (Clock time) = refl
   records-are (Release association) = refl
 
+  timeouts-are : (e : Event) (n : ℕ) → timeoutsFor (kindOf e) n ≡ timeoutsField e n
+  timeouts-are (Opening timer time) n = refl
+  timeouts-are (Segment time association s) n = refl
+  timeouts-are (Clock time) n = refl
+  timeouts-are (Release association) n = refl
+
   opens-is : (e : Event) → eqb (kindOf e) 32 ≡ isOpening e
   opens-is (Opening timer time) = refl
-  opens-is (Segment association s) = refl
+  opens-is (Segment time association s) = refl
   opens-is (Clock time) = refl
   opens-is (Release association) = refl
 
@@ -118,7 +126,7 @@ module _ (held : Replay) (store : Stored) (lent : Lent) where
     where
       go : (a b c d : Bool) → opensAt (atItem held store lent
           (if a then Happens (Opening (number (take 4 body)) (number (drop 4 body))) else
-          if b then Happens (Segment (number (take 2 body)) (take (octet body 2) (drop 3 body))) else
+          if b then Happens (Segment (number (take 4 body)) (number (take 2 (drop 4 body))) (take (octet body 6) (drop 7 body))) else
           if c then Happens (Clock (number body)) else
           if d then Happens (Release (number body)) else
           Registers (kind ∷ body)) used .front) ≡ a
@@ -162,7 +170,7 @@ module _ (held : Replay) (store : Stored) (lent : Lent) where
   event-told : (which : Watcher) (events : ℕ) (e : Event) (used : ℕ) → Told which events (happening held store lent e used)
   unfolding Told
   event-told Lines events e used = rw (fields-is e)
-  event-told Records events e used = rw (fields-is e, records-are e, opens-is e)
+  event-told Records events e used = rw (fields-is e, timeouts-are e (answer e .timeouts), records-are e, opens-is e)
   event-told Totals events e used = rw (opens-is e) (go (isOpening e))
     where
       go : (b : Bool) → (if b then rowLines (store .summary) else []) ++ (if b then headingLine (counted events) (answer e .refusal) else [])

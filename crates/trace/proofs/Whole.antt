@@ -52,7 +52,7 @@ module _ {M : Type 0} (o : Observer M) where
     same-step : (e : Event) → step here (callOf (over l held store lent) e) ≡ stepOf held store lent e
     unfolding step
     same-step (Opening timer time) = rw (k .is, opening-nine l timer time)
-    same-step (Segment association s) = refl
+    same-step (Segment time association s) = refl
     same-step (Clock time) = refl
     same-step (Release association) = refl
 

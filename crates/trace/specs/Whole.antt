@@ -10,7 +10,7 @@ use Rattle.rules.specs.General.{if_then_else_}
 use Rattle.rules.specs.Numbers.{storeLeast}
 use Rattle.rules.specs.Registry.{isCut}
 use Rattle.rules.specs.Opening.{unopened}
-use Rattle.rules.specs.Sweep.{reportLeast}
+use Rattle.rules.specs.Arrival.{arrivalLeast}
 use Rattle.rules.specs.Summary.{emptySummary}
 use Rattle.rules.specs.Calls.{Lent, lending}
 use Rattle.rules.specs.Trace.{itemsOf, Observer, watched, watching}
@@ -74,8 +74,8 @@ module _ {M : Type 0} (o : Observer M) where
   abbrev pub OfAll : Type 0
   OfAll =
       (n room : ℕ) (m : M) (reads : List (List ℕ)) → toldMost ≤ room → length (allOf reads) + length reads < n
-      → session n room m begins (storedOf emptySummary (replicate storeLeast 0)) (lending (replicate reportLeast 0) []) [] reads ≡ watching o m (allOf reads)
+      → session n room m begins (storedOf emptySummary (replicate storeLeast 0)) (lending (replicate arrivalLeast 0) []) [] reads ≡ watching o m (allOf reads)
 
 -- 3. the beginning
 abbrev pub AtBeginning : Type 0
-AtBeginning = Shows begins (storedOf emptySummary (replicate storeLeast 0)) (lending (replicate reportLeast 0) []) trace.beginning
+AtBeginning = Shows begins (storedOf emptySummary (replicate storeLeast 0)) (lending (replicate arrivalLeast 0) []) trace.beginning

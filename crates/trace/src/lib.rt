@@ -10,6 +10,7 @@ ghost use Prim.Native.Nat.{ℕ, _*_, _≤_};
 ghost use lib.ListN.{length};
 ghost use Rattle.octets.specs.Splice.{Wrote};
 ghost use Rattle.rules.specs.Records.{recordLength};
+ghost use Rattle.rules.specs.Arrival.{recordsMost};
 ghost use Rattle.rules.specs.Calls.{lending};
 ghost use Rattle.rules.specs.Lines.{counted};
 ghost use Rattle.trace_events.specs.Events.{storedOf};
@@ -115,7 +116,7 @@ fn tell_event(
     at: usize,
     out: &mut [u8],
 ) -> usize
-    requires { ⌜ (h .records ≤ 16) × ((recordLength * h .records ≤ length (now report)) × Begins which at) ⌝ }
+    requires { ⌜ (h .records ≤ recordsMost) × ((recordLength * h .records ≤ length (now report)) × Begins which at) ⌝ }
     ensures { λ r. ⌜ Wrote (now (out .entry)) at (eventBy which events places h (now (report .entry))) (now (out .exit)) r ⌝ }
     ensures { λ r. ⌜ r ≤ 16384 ⌝ }
 {

@@ -5,7 +5,7 @@ use mathlib.Core.List.{List, []}
 use Rattle.rules.specs.Opening.{opening}
 use Rattle.rules.specs.Summary.{emptySummary}
 use Rattle.rules.specs.Calls.{Lent, lending, step}
-use Rattle.rules.specs.Promises.{OfSegment, OfClock, OfRelease}
+use Rattle.rules.specs.Promises.{OfArrival, OfClock, OfRelease}
 use Rattle.rules.specs.Trace.{Opening, Segment, Clock, Release}
 use Rattle.rules.specs.declared.Table.{Table}
 use Rattle.rules.specs.declared.Received.{Received}
@@ -13,10 +13,10 @@ use Rattle.rules.specs.declared.Swept.{Swept}
 use Rattle.trace_events.specs.Events.{Stored, storedOf, registryOf, answerOpened, answerSwept, OfEvent}
 use Rattle.trace_events.specs.declared.Replay.{Replay}
 
--- a segment, by the octets that its body has of it
-pub of-part : (t : Table) (m store report : List ℕ) (association : ℕ) (s s′ : List ℕ) (r : Received) (m′ store′ report′ : List ℕ) → s ≡ s′
-    → OfSegment t m store report association s r m′ store′ report′ → OfSegment t m store report association s′ r m′ store′ report′
-of-part t m store report association s s′ r m′ store′ report′ e p = rw (← e) p
+-- an arrival, by the octets that its body has of it
+pub of-part : (t : Table) (m store report : List ℕ) (time association : ℕ) (s s′ : List ℕ) (r : Received) (m′ store′ report′ : List ℕ) → s ≡ s′
+    → OfArrival t m store report time association s r m′ store′ report′ → OfArrival t m store report time association s′ r m′ store′ report′
+of-part t m store report time association s s′ r m′ store′ report′ e p = rw (← e) p
 
 -- the areas, where only one for records is lent
 abbrev lentTo : List ℕ → Lent
@@ -31,10 +31,10 @@ module _ (held : Replay) (m store report : List ℕ) (answer : Received) (m′ :
   unfolding step
   of-opening timer time a e = record { answered = a; stored = λ i. storedOf (e i) store; lends = refl }
 
-  pub of-segment : (association : ℕ) (s store′ report′ : List ℕ) → OfSegment (held .table) m store report association s answer m′ store′ report′
-      → OfEvent held before (lentTo report) (Segment association s) answer (storedOf m′ store′) (lentTo report′)
+  pub of-arrival : (time association : ℕ) (s store′ report′ : List ℕ) → OfArrival (held .table) m store report time association s answer m′ store′ report′
+      → OfEvent held before (lentTo report) (Segment time association s) answer (storedOf m′ store′) (lentTo report′)
   unfolding step
-  of-segment association s store′ report′ p = record { answered = p .answered; stored = λ i. storedOf (p .summed i) (p .stored i); lends = ap lentTo (p .reported) }
+  of-arrival time association s store′ report′ p = record { answered = p .answered; stored = λ i. storedOf (p .summed i) (p .stored i); lends = ap lentTo (p .reported) }
 
   pub of-clock : (time : ℕ) (o : Swept) (report′ : List ℕ) → OfClock (held .table) m report time o m′ report′ → answer ≡ answerSwept o
       → OfEvent held before (lentTo report) (Clock time) answer (storedOf m′ store) (lentTo report′)

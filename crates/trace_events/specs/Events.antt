@@ -43,10 +43,10 @@ replayOf held store lent =
 
 -- the answers of calls that decide nothing
 abbrev pub answerOpened : Opened → Received
-answerOpened o = record { table = o .table; decision = Refused; position = nowhere; refusal = o .refusal; records = 0 }
+answerOpened o = record { table = o .table; decision = Refused; position = nowhere; refusal = o .refusal; records = 0; timeouts = 0 }
 
 abbrev pub answerSwept : Swept → Received
-answerSwept o = record { table = o .table; decision = Refused; position = nowhere; refusal = o .refusal; records = o .records }
+answerSwept o = record { table = o .table; decision = Refused; position = nowhere; refusal = o .refusal; records = o .records; timeouts = 0 }
 
 -- what an event does is the rules' own step
 abbrev pub stepOf : Replay → Stored → Lent → Event → Outcome
@@ -61,6 +61,7 @@ answerOf o =
       position = o .answer .position;
       refusal = o .answer .refusal;
       records = o .answer .records;
+      timeouts = o .answer .timeouts;
     }
 
 pub record OfEvent (held : Replay) (store : Stored) (lent : Lent) (e : Event) (answer : Received) (store′ : Stored) (lent′ : Lent) : Type 0 where

@@ -10,7 +10,7 @@ ghost use lib.ListN.{take, drop};
 ghost use Rattle.rules.specs.Opening.{opening};
 ghost use Rattle.rules.specs.Summary.{emptySummary};
 ghost use Rattle.rules.specs.Calls.{lending};
-ghost use Rattle.rules.specs.Promises.{OfSegment};
+ghost use Rattle.rules.specs.Promises.{OfArrival};
 ghost use Rattle.trace_items.specs.Reading.{eventMeant};
 ghost use Rattle.trace_events.specs.Events.{storedOf, registryOf, answerOpened, answerSwept, OfEvent, keeping};
 
@@ -35,6 +35,7 @@ fn open(held: Replay, m: &mut [u64; rules::SUMMARY], timer: u32, clock: u32) -> 
         position: rules::NOWHERE,
         refusal: r.refusal,
         records: 0,
+        timeouts: 0,
     }
 }
 
@@ -44,14 +45,15 @@ fn arrive(
     m: &mut [u64; rules::SUMMARY],
     store: &mut [u8],
     report: &mut [u8],
+    time: u32,
     association: u16,
     length: u8,
     body: &[u8],
 ) -> Received
-    ensures { λ r. ⌜ OfSegment t (now (m .entry)) (now (store .entry)) (now (report .entry)) association (take length (drop 3 (now (body .entry)))) r (now (m .exit)) (now (store .exit)) (now (report .exit)) ⌝ }
+    ensures { λ r. ⌜ OfArrival t (now (m .entry)) (now (store .entry)) (now (report .entry)) time association (take length (drop 7 (now (body .entry)))) r (now (m .exit)) (now (store .exit)) (now (report .exit)) ⌝ }
 {
-    let s = octets::part(body, 3, length as usize);
-    receiver::segment(t, m, store, report, association, s)
+    let s = octets::part(body, 7, length as usize);
+    receiver::arrival(t, m, store, report, time, association, s)
 }
 
 // The answer of a sweep, which decides nothing.
@@ -65,6 +67,7 @@ fn swept(s: Swept) -> Received
         position: rules::NOWHERE,
         refusal: s.refusal,
         records: s.records,
+        timeouts: 0,
     }
 }
 
@@ -83,9 +86,10 @@ pub fn happen(
     match e {
         Event::Open { timer, clock } => open(held, m, timer, clock),
         Event::Segment {
+            time,
             association,
             length,
-        } => arrive(table, m, store, report, association, length, body),
+        } => arrive(table, m, store, report, time, association, length, body),
         Event::Clock(time) => swept(receiver::clock(table, m, report, time)),
         Event::Release(association) => swept(receiver::release(table, m, report, association)),
     }

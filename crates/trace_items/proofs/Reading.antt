@@ -30,10 +30,8 @@ body-unknown kind h a b c d = go (leb 32 kind) refl
     go false e = simp (ne-eqb kind 1 (λ e. omega arith), ne-eqb kind 2 (λ e. omega arith), e)
 
 -- octets one by one
-pub take-two : (l : List ℕ) → 2 ≤ length l → take 2 l ≡ getD l 0 0 ∷ getD l 1 0 ∷ []
-take-two [] h = let z : ⊥ = omega arith in absurd z
-take-two (x ∷ []) h = let z : ⊥ = omega arith in absurd z
-take-two (x ∷ y ∷ l) h = refl
+pub take-two : (l : List ℕ) (at : ℕ) → at + 2 ≤ length l → take 2 (drop at l) ≡ getD l at 0 ∷ getD l (at + 1) 0 ∷ []
+take-two l at h = rw (left l 0 at (omega arith), left l 0 (at + 1) (omega arith))
 
 pub take-four : (l : List ℕ) (at : ℕ) → at + 4 ≤ length l → take 4 (drop at l) ≡ getD l at 0 ∷ getD l (at + 1) 0 ∷ getD l (at + 2) 0 ∷ getD l (at + 3) 0 ∷ []
 take-four l at h =
@@ -48,10 +46,10 @@ item-as i j kind body p e = rw (← p) e
 pub registers-two : (kind : ℕ) (body : List ℕ) → Registers (kind ∷ body) ≡ itemOf kind body → bodyLength kind ≡ 2
 registers-two kind body e = item-by (λ (i : trace.Item). Registers (kind ∷ body) ≡ i → bodyLength kind ≡ 2) kind body (λ x p. cc) (λ n p. n) e
 
-pub body-most : (kind : ℕ) → bodyLength kind ≤ 258
+pub body-most : (kind : ℕ) → bodyLength kind ≤ 262
 body-most kind = go (eqb kind 32) (eqb kind 33) (eqb kind 34)
   where
-    go : (a b d : Bool) → (if a then 8 else if b then 258 else if d then 4 else 2) ≤ 258
+    go : (a b d : Bool) → (if a then 8 else if b then 262 else if d then 4 else 2) ≤ 262
     go true b d = omega arith
     go false true d = omega arith
     go false false true = omega arith

@@ -15,10 +15,10 @@ use Rattle.trace_items.specs.declared.Body.the-variants.{Of, Unknown}
 abbrev pub bodyOf : ℕ → Body
 bodyOf kind = if isKnown kind then Of (bodyLength kind) else Unknown
 
--- of a segment's body, the first length octets past association and length count
+-- of a segment's body, the first length octets past time, association and length count
 abbrev pub eventMeant : code.Event → List ℕ → trace.Event
 eventMeant (event.Open timer time) body = Opening timer time
-eventMeant (event.Segment association n) body = trace.Segment association (take n (drop 3 body))
+eventMeant (event.Segment time association n) body = trace.Segment time association (take n (drop 7 body))
 eventMeant (event.Clock time) body = Clock time
 eventMeant (event.Release association) body = Release association
 
@@ -29,6 +29,6 @@ itemMeant (item.Happens e) kind body = Happens (eventMeant e body)
 -- the kind of an event's record
 abbrev pub kindFor : code.Event → ℕ
 kindFor (event.Open timer time) = 32
-kindFor (event.Segment association n) = 33
+kindFor (event.Segment time association n) = 33
 kindFor (event.Clock time) = 34
 kindFor (event.Release association) = 35

@@ -9,8 +9,15 @@ ghost use Rattle.trace_items.specs.Reading.{bodyOf, itemMeant, kindFor};
 
 // What prints a line. A segment's octets stay in the record's body.
 pub enum Event {
-    Open { timer: u32, clock: u32 },
-    Segment { association: u16, length: u8 },
+    Open {
+        timer: u32,
+        clock: u32,
+    },
+    Segment {
+        time: u32,
+        association: u16,
+        length: u8,
+    },
     Clock(u32),
     Release(u16),
 }
@@ -22,6 +29,7 @@ pub struct Happening {
     pub kind: u8,
     pub refusal: u8,
     pub records: u8,
+    pub timeouts: u8,
 }
 
 // A record of a trace.
@@ -43,18 +51,18 @@ pub fn body_length(kind: u8) -> Body
     match kind {
         1 | 2 | 35 => Body::Of(2),
         32 => Body::Of(8),
-        33 => Body::Of(258),
+        33 => Body::Of(262),
         34 => Body::Of(4),
         0 | 3..=31 | 36..=255 => Body::Unknown,
     }
 }
 
-// The number in the first two octets of a body.
-fn pair(body: &[u8]) -> u16
-    requires { ⌜ 2 ≤ length (now body) ⌝ }
-    ensures { λ r. ⌜ r ≡ number (take 2 (now (body .entry))) ⌝ }
+// The number in two octets of a body, from an index on.
+fn pair(body: &[u8], at: usize) -> u16
+    requires { ⌜ at + 2 ≤ length (now body) ⌝ }
+    ensures { λ r. ⌜ r ≡ number (take 2 (drop at (now (body .entry)))) ⌝ }
 {
-    octets::number2(body[0], body[1])
+    octets::number2(body[at], body[at + 1])
 }
 
 // The number in four octets of a body, from an index on.
@@ -76,11 +84,12 @@ pub fn item_of(kind: u8, body: &[u8]) -> Item
             clock: word(body, 4),
         }),
         33 => Item::Happens(Event::Segment {
-            association: pair(body),
-            length: body[2],
+            time: word(body, 0),
+            association: pair(body, 4),
+            length: body[6],
         }),
         34 => Item::Happens(Event::Clock(word(body, 0))),
-        35 => Item::Happens(Event::Release(pair(body))),
+        35 => Item::Happens(Event::Release(pair(body, 0))),
         // 1 and 2 are left: a kind that is not known has no length, so that it never comes here
         0..=31 | 36..=255 => Item::Registers,
     }
@@ -93,6 +102,7 @@ pub fn kind_of(e: Event) -> u8
     match e {
         Event::Open { timer: _, clock: _ } => 32,
         Event::Segment {
+            time: _,
             association: _,
             length: _,
         } => 33,

@@ -10,7 +10,7 @@ use Rattle.rules.specs.Lines.{nameOf, octetsOf, lineFields, positionWord}
 abbrev pub nameFor : ℕ → List ℕ
 nameFor kind =
     if eqb kind 32 then nameOf (Opening 0 0) else
-    if eqb kind 33 then nameOf (Segment 0 []) else
+    if eqb kind 33 then nameOf (Segment 0 0 []) else
     if eqb kind 34 then nameOf (Clock 0) else nameOf (Release 0)
 
 -- the fields that every event has, of a kind that made so many records, the first of a report

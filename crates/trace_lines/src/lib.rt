@@ -5,7 +5,7 @@ ghost use Prim.Native.Nat.{ℕ, _+_, _*_, _≤_, _<_};
 ghost use lib.ListN.{length, take, drop};
 ghost use Rattle.octets.specs.Splice.{Wrote};
 ghost use Rattle.rules.specs.Records.{recordLength, recordFrom, recordsFrom};
-ghost use Rattle.rules.specs.Sweep.{reportLeast};
+ghost use Rattle.rules.specs.Arrival.{recordsMost, arrivalLeast};
 ghost use Rattle.rules.specs.Lines.{decimal, field, numberUnless, octetsOf, stopIf};
 ghost use Rattle.trace_lines.specs.Digits.{Left};
 ghost use Rattle.trace_lines.specs.Printing.{nameFor, countsMost, countsFor, fieldsMost, fieldsFor, lineFor};
@@ -106,7 +106,7 @@ pub fn put_word(out: &mut [u8], at: usize, word: &[u8]) -> usize
 
 // The octets of a kind's records among the first n of a report.
 fn total(report: &[u8], n: usize, kind: u8) -> u64
-    requires { ⌜ (n ≤ 16) × (recordLength * n ≤ length (now report)) ⌝ }
+    requires { ⌜ (n ≤ recordsMost) × (recordLength * n ≤ length (now report)) ⌝ }
     ensures { λ r. ⌜ r ≡ octetsOf kind (recordsFrom n (now (report .entry))) ⌝ }
 {
     let mut sum = 0;
@@ -120,7 +120,7 @@ fn total(report: &[u8], n: usize, kind: u8) -> u64
 
 // The octets of the record that begins at an index, where it is of a kind.
 fn octets_in(report: &[u8], at: usize, kind: u8) -> u64
-    requires { ⌜ (at ≤ reportLeast) × (at + recordLength ≤ length (now report)) ⌝ }
+    requires { ⌜ (at ≤ arrivalLeast) × (at + recordLength ≤ length (now report)) ⌝ }
     ensures { λ r. ⌜ r ≡ octetsOf kind (recordFrom (take recordLength (drop at (now (report .entry)))) ∷ []) ⌝ }
     ensures { λ r. ⌜ r ≤ 65535 ⌝ }
 {
@@ -132,7 +132,7 @@ fn octets_in(report: &[u8], at: usize, kind: u8) -> u64
 
 // What every event's line begins with: its name, its refusal, and of the records that it made how many there are and their octets, delivered and lost.
 fn put_counts(out: &mut [u8], kind: u8, refusal: u8, records: u8, report: &[u8]) -> usize
-    requires { ⌜ (records ≤ 16) × (recordLength * records ≤ length (now report)) ⌝ }
+    requires { ⌜ (records ≤ recordsMost) × (recordLength * records ≤ length (now report)) ⌝ }
     ensures { λ r. ⌜ Wrote (now (out .entry)) 0 (countsFor kind refusal records (now (report .entry))) (now (out .exit)) r ⌝ }
     ensures { λ r. ⌜ r ≤ countsMost ⌝ }
 {
@@ -168,7 +168,7 @@ pub fn put_fields(
     records: u8,
     report: &[u8],
 ) -> usize
-    requires { ⌜ (records ≤ 16) × (recordLength * records ≤ length (now report)) ⌝ }
+    requires { ⌜ (records ≤ recordsMost) × (recordLength * records ≤ length (now report)) ⌝ }
     ensures { λ r. ⌜ Wrote (now (out .entry)) 0 (fieldsFor kind refusal position records (now (report .entry))) (now (out .exit)) r ⌝ }
     ensures { λ r. ⌜ r ≤ fieldsMost ⌝ }
 {
@@ -188,7 +188,7 @@ pub fn put_line(
     records: u8,
     report: &[u8],
 ) -> usize
-    requires { ⌜ (records ≤ 16) × (recordLength * records ≤ length (now report)) ⌝ }
+    requires { ⌜ (records ≤ recordsMost) × (recordLength * records ≤ length (now report)) ⌝ }
     ensures { λ r. ⌜ Wrote (now (out .entry)) 0 (lineFor kind refusal position records (now (report .entry))) (now (out .exit)) r ⌝ }
     ensures { λ r. ⌜ r ≤ fieldsMost + 1 ⌝ }
 {

@@ -17,9 +17,9 @@ use Rattle.trace_items.specs.declared.Happening.{Happening}
 abbrev pub lineMost : ℕ
 lineMost = 239
 
--- .. and of an event: behind replay's fields a number, a space, what became of it, and the line's end
+-- .. and of an event: behind replay's fields a number, that of the clock's records, a space, what became of it, and the line's end
 abbrev pub eventMost : ℕ
-eventMost = fieldsMost + 21 + 1 + 28 + 1
+eventMost = fieldsMost + 21 + 21 + 1 + 28 + 1
 
 -- a record's line, as it is written: what names the sequence, what is said of it; behind them the addresses
 abbrev pub namedFields : List ℕ → Key → List ℕ
@@ -28,8 +28,12 @@ namedFields word k = word ++ field (k .association) ++ field (k .context .0) ++ 
 abbrev pub countFields : Record → List ℕ
 countFields r = field (r .instruction) ++ field (r .cause) ++ field (r .segments) ++ field (r .octets)
 
+abbrev pub timeoutsFor : ℕ → ℕ → List ℕ
+timeoutsFor kind n = if eqb kind 33 then field n else []
+
 abbrev pub lineFor : ℕ → Happening → List ℕ → List ℕ
-lineFor number h report = numberedLine (fieldsFor (h .kind) (h .refusal) (h .position) (h .records) report) number (h .refusal) (h .decision)
+lineFor number h report =
+    numberedLine (fieldsFor (h .kind) (h .refusal) (h .position) (h .records) report) number (timeoutsFor (h .kind) (h .timeouts)) (h .refusal) (h .decision)
 
 -- the line, the records, and what an opening drops
 abbrev pub listingFor : ℕ → Happening → List ℕ → List Place → List ℕ

@@ -15,9 +15,10 @@ ghost use Rattle.octets.specs.Splice.{Wrote};
 ghost use Rattle.rules.specs.Numbers.{placeCount};
 ghost use Rattle.rules.specs.Places.{isOpen};
 ghost use Rattle.rules.specs.Records.{recordLength, recordedAt, recordFrom, recordsFrom};
-ghost use Rattle.rules.specs.Sweep.{lossOf, reportLeast};
+ghost use Rattle.rules.specs.Sweep.{lossOf};
+ghost use Rattle.rules.specs.Arrival.{recordsMost, arrivalLeast};
 ghost use Rattle.rules.specs.Listing.{hexDigit, hexOf, addressWord, recordLine, recordWord, recordLines, openLines, endWord, heldWord};
-ghost use Rattle.trace_records.specs.Listing.{lineMost, eventMost, namedFields, countFields, lineFor, listingFor, endFor};
+ghost use Rattle.trace_records.specs.Listing.{lineMost, eventMost, namedFields, countFields, timeoutsFor, lineFor, listingFor, endFor};
 
 // The address that a record has at a position.
 fn address_in(l: &[u8], at: usize) -> Address
@@ -148,7 +149,7 @@ fn put_record(out: &mut [u8], at: usize, word: &[u8], r: Record) -> usize
 
 // The line of the record that begins at an index of a report.
 fn put_told(out: &mut [u8], at: usize, report: &[u8], from: usize) -> usize
-    requires { ⌜ (at ≤ 10000) × ((from ≤ reportLeast) × (from + recordLength ≤ length (now report))) ⌝ }
+    requires { ⌜ (at ≤ 10000) × ((from ≤ arrivalLeast) × (from + recordLength ≤ length (now report))) ⌝ }
     ensures { λ n. ⌜ Wrote (now (out .entry)) at (recordLines (recordFrom (take recordLength (drop from (now (report .entry)))) ∷ [])) (now (out .exit)) n ⌝ }
     ensures { λ n. ⌜ n ≤ at + lineMost ⌝ }
 {
@@ -161,7 +162,7 @@ fn put_told(out: &mut [u8], at: usize, report: &[u8], from: usize) -> usize
 
 // The lines of the first n records of a report.
 fn put_records(out: &mut [u8], at: usize, report: &[u8], n: usize) -> usize
-    requires { ⌜ (at ≤ 1000) × ((n ≤ 16) × (recordLength * n ≤ length (now report))) ⌝ }
+    requires { ⌜ (at ≤ 1000) × ((n ≤ recordsMost) × (recordLength * n ≤ length (now report))) ⌝ }
     ensures { λ r. ⌜ Wrote (now (out .entry)) at (recordLines (recordsFrom n (now (report .entry)))) (now (out .exit)) r ⌝ }
     ensures { λ r. ⌜ r ≤ at + lineMost * n ⌝ }
 {
@@ -232,18 +233,31 @@ fn put_decision(out: &mut [u8], at: usize, refusal: u8, decision: Decision) -> u
     }
 }
 
+// Of a segment's line, how many of its records are the clock's.
+fn put_timeouts(out: &mut [u8], at: usize, kind: u8, timeouts: u8) -> usize
+    requires { ⌜ at ≤ 10000 ⌝ }
+    ensures { λ r. ⌜ Wrote (now (out .entry)) at (timeoutsFor kind timeouts) (now (out .exit)) r ⌝ }
+    ensures { λ r. ⌜ r ≤ at + 21 ⌝ }
+{
+    if kind == 33 {
+        return trace_lines::put_field(out, at, timeouts as u64);
+    }
+    at
+}
+
 // An event's line, with its number.
 fn put_line(out: &mut [u8], number: u64, h: Happening, report: &[u8]) -> usize
-    requires { ⌜ (h .records ≤ 16) × (recordLength * h .records ≤ length (now report)) ⌝ }
+    requires { ⌜ (h .records ≤ recordsMost) × (recordLength * h .records ≤ length (now report)) ⌝ }
     ensures { λ r. ⌜ Wrote (now (out .entry)) 0 (lineFor number h (now (report .entry))) (now (out .exit)) r ⌝ }
     ensures { λ r. ⌜ r ≤ eventMost ⌝ }
 {
     let decision = h.decision;
     let a = trace_lines::put_fields(out, h.kind, h.refusal, h.position, h.records, report);
     let b = trace_lines::put_field(out, a, number);
-    let c = trace_lines::put_octet(out, b, 32);
-    let d = put_decision(out, c, h.refusal, decision);
-    trace_lines::put_octet(out, d, 10)
+    let c = put_timeouts(out, b, h.kind, h.timeouts);
+    let d = trace_lines::put_octet(out, c, 32);
+    let e = put_decision(out, d, h.refusal, decision);
+    trace_lines::put_octet(out, e, 10)
 }
 
 // All that is printed of an event: its line, its records, and what an opening drops of the places before it.
@@ -254,9 +268,9 @@ pub fn put_event(
     report: &[u8],
     places: [Place; 16],
 ) -> usize
-    requires { ⌜ (h .records ≤ 16) × (recordLength * h .records ≤ length (now report)) ⌝ }
+    requires { ⌜ (h .records ≤ recordsMost) × (recordLength * h .records ≤ length (now report)) ⌝ }
     ensures { λ r. ⌜ Wrote (now (out .entry)) 0 (listingFor number h (now (report .entry)) places) (now (out .exit)) r ⌝ }
-    ensures { λ r. ⌜ r ≤ 8000 ⌝ }
+    ensures { λ r. ⌜ r ≤ 9000 ⌝ }
 {
     let line = put_line(out, number, h, report);
     let told = put_records(out, line, report, h.records as usize);

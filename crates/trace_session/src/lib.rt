@@ -175,7 +175,7 @@ pub fn run(which: Watcher, unread: &[u8], unwritten: &[u8]) -> Session
 {
     let mut summary = [0u64; rules::SUMMARY];
     let mut store = [0u8; rules::STORE];
-    let mut report = [0u8; rules::REPORT];
+    let mut report = [0u8; rules::REPORT_ARRIVAL];
     let mut input = [0u8; 65536];
     let mut out = [0u8; 65536];
     let mut s = beginning();

@@ -18,13 +18,13 @@ use Rattle.trace_turns.specs.declared.Walk.{Walk}
 
 opening-is : (e : code.Event) (body : List ℕ) → eqb (kindFor e) 32 ≡ isOpening (eventMeant e body)
 opening-is (event.Open timer time) body = refl
-opening-is (event.Segment association n) body = refl
+opening-is (event.Segment time association n) body = refl
 opening-is (event.Clock time) body = refl
 opening-is (event.Release association) body = refl
 
 kind-is : (e : code.Event) (body : List ℕ) → kindFor e ≡ kindOf (eventMeant e body)
 kind-is (event.Open timer time) body = refl
-kind-is (event.Segment association n) body = refl
+kind-is (event.Segment time association n) body = refl
 kind-is (event.Clock time) body = refl
 kind-is (event.Release association) body = refl
 
@@ -33,7 +33,7 @@ abbrev walkWith : Replay → Received → ℕ → Bool → ℕ → Walk
 walkWith held a kind opens used =
     record {
       replay = record { registry = held .registry; length = held .length; table = a .table; begun = held .begun || opens };
-      met = met.Happens (record { decision = a .decision; position = a .position; kind = kind; refusal = a .refusal; records = a .records });
+      met = met.Happens (record { decision = a .decision; position = a .position; kind = kind; refusal = a .refusal; records = a .records; timeouts = a .timeouts });
       used = used;
     }
 

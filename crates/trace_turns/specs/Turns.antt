@@ -6,8 +6,8 @@ use mathlib.Core.List.{List, [], _∷_}
 use lib.Dec.{ltb}
 use lib.ListN.{length, take}
 use Rattle.rules.specs.General.{if_then_else_}
-use Rattle.rules.specs.Numbers.{placeCount}
 use Rattle.rules.specs.Records.{recordLength}
+use Rattle.rules.specs.Arrival.{recordsMost}
 use Rattle.rules.specs.Calls.{Lent, Outcome}
 use Rattle.rules.specs.Trace.{Event, Opening, Segment, Clock, Release, Item, Registers, Happens, Stops, Sight, sightOf, isKnown, bodyLength, itemOf, isOpening, lentAfter}
 use Rattle.rules.specs.Listing.{decisionIn}
@@ -36,7 +36,7 @@ pub record Walked : Type 0 where
 -- what the code says of an event: its kind, and its answer but for the table and the areas
 abbrev pub kindOf : Event → ℕ
 kindOf (Opening timer time) = 32
-kindOf (Segment association s) = 33
+kindOf (Segment time association s) = 33
 kindOf (Clock time) = 34
 kindOf (Release association) = 35
 
@@ -48,6 +48,7 @@ happeningOf e o =
       kind = kindOf e;
       refusal = o .answer .refusal;
       records = o .answer .records;
+      timeouts = o .answer .timeouts;
     }
 
 abbrev pub metOf : Front → Met
@@ -67,7 +68,7 @@ abbrev pub Fits : Met → List ℕ → Type 0
 Fits met.Waits report = Unit {0}
 Fits met.Stops report = Unit {0}
 Fits met.Registers report = Unit {0}
-Fits (met.Happens h) report = (h .records ≤ placeCount) × (recordLength * h .records ≤ length report)
+Fits (met.Happens h) report = (h .records ≤ recordsMost) × (recordLength * h .records ≤ length report)
 
 -- nothing is done and nothing is used
 abbrev pub still : Replay → Met → Walk

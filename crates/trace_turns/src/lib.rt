@@ -66,7 +66,7 @@ fn happens(
     e: Event,
     body: &[u8],
 ) -> Walk
-    requires { ⌜ length (now body) ≤ 258 ⌝ }
+    requires { ⌜ length (now body) ≤ 262 ⌝ }
     ensures { λ r. ⌜ OfWalk (happening held (storedOf (now (m .entry)) (now (store .entry))) (lending (now (report .entry)) []) (eventMeant e (now (body .entry))) (1 + length (now (body .entry)))) r (storedOf (now (m .exit)) (now (store .exit))) (lending (now (report .exit)) []) ⌝ }
     ensures { λ r. ⌜ Fits (r .met) (now (report .exit)) ⌝ }
 {
@@ -81,6 +81,7 @@ fn happens(
         kind,
         refusal: a.refusal,
         records: a.records,
+        timeouts: a.timeouts,
     };
     Walk {
         replay: Replay {

@@ -1,6 +1,7 @@
 // The paper's examples, M and the rest, run by the compiled calls. What is printed is held to the file stdout.
 use libc::STDOUT_FILENO;
 use rules::Context;
+use rules::Received;
 use rules::Reference;
 use rules::Request;
 use rules::Table;
@@ -36,29 +37,53 @@ fn octets(s: &[u8]) {
     }
 }
 
+// The octets of the first n records of a report.
+fn records(report: &[u8], n: u8) {
+    let mut i: usize = 0;
+    while i < n as usize {
+        octets(octets::part(report, rules::RECORD * i, rules::RECORD));
+        i += 1;
+    }
+}
+
 // Registry 01 00 03, 02 00 04; T 100.
 fn fresh(m: &mut [u64; rules::SUMMARY], clock: u32) -> Table {
     let r = opening::opening(m, b"\x01\x00\x03\x02\x00\x04", 100, clock);
     r.table
 }
 
-// A segment: its refusal and the octet at fault, its records, its record, and how many octets it delivers, with the first of them.
-fn segment(t: Table, m: &mut [u64; rules::SUMMARY], store: &mut [u8], s: &[u8]) -> Table {
-    let mut report = [0u8; rules::RECORD];
-    let r = receiver::segment(t, m, store, &mut report, 9, s);
+// An arrival's answer: its refusal and the octet at fault, its records and how many are the clock's, and their octets.
+fn told(r: Received, report: &[u8]) {
     io::write_all(STDOUT_FILENO, b"segment");
     number(r.refusal as u64);
     position(r.position);
     number(r.records as u64);
-    if r.records == 1 {
-        octets(octets::part(&report, 0, rules::RECORD));
-    }
+    number(r.timeouts as u64);
+    records(report, r.records);
+}
+
+// An arrival: its answer, and how many octets it delivers, with the first of them.
+fn arrival(
+    t: Table,
+    m: &mut [u64; rules::SUMMARY],
+    store: &mut [u8],
+    time: u32,
+    s: &[u8],
+) -> Table {
+    let mut report = [0u8; rules::REPORT_ARRIVAL];
+    let r = receiver::arrival(t, m, store, &mut report, time, 9, s);
+    told(r, &report);
     let decision = r.decision;
     let part = receiver::delivery(decision, s, store);
     number(part.len() as u64);
     octets(octets::part(part, 0, 4));
     io::write_all(STDOUT_FILENO, b"\n");
     r.table
+}
+
+// .. at the table's own time.
+fn segment(t: Table, m: &mut [u64; rules::SUMMARY], store: &mut [u8], s: &[u8]) -> Table {
+    arrival(t, m, store, t.clock, s)
 }
 
 fn alone(name: &[u8], s: &[u8]) {
@@ -174,6 +199,27 @@ fn faults() {
     alone(b"A5 ", &long);
 }
 
+// A first segment at 0, an arrival at another time, and the clock at 199 and 200. T is 100.
+fn late(time: u32, s: &[u8]) {
+    let mut m = [0u64; rules::SUMMARY];
+    let mut store = [0u8; rules::STORE];
+    let o = fresh(&mut m, 0);
+    let t = arrival(o, &mut m, &mut store, 0, b"\x83\x81\x41\x85\xAA");
+    let u = arrival(t, &mut m, &mut store, time, s);
+    let v = clock(u, &mut m, 199);
+    clock(v, &mut m, 200);
+}
+
+// Document 02, A6: the last segment in time, and when its sequence is lost before it; a refusal 8 with that loss beside it; a first segment in the place that this frees, whose time
+// runs from its arrival; a step back.
+fn arrivals() {
+    late(99, b"\x83\x80\x00\x85\xBB");
+    late(100, b"\x83\x80\x00\x85\xBB");
+    late(100, b"\x85");
+    late(100, b"\x83\x80\x41\x85\xCC");
+    late(4294967295, b"\x83\x80\x00\x85\xBB");
+}
+
 fn main() {
     alone(b"M1 ", b"");
     alone(b"M2 ", b"\x83\x80\xC0\xAA\xBB");
@@ -193,6 +239,7 @@ fn main() {
     alone(b"M12 ", b"\x03\x80\x80\xC0\xAA");
     exchanges();
     faults();
+    arrivals();
     sending(b"\x01\x02\x03\x04\x05", 8, 8, 0);
     sending(b"\x01\x02\x03\x04\x05", 7, 7, 0);
     sending(b"\x01\x02\x03\x04\x05", 7, 7, 1);

@@ -6,8 +6,8 @@ use borrow.Author.Needs.{needs}
 use Rattle.demanded.proofs.c_clock.Statement.{statement}
 use Rattle.demanded.proofs.c_clock.Tie as tie
 
-egrynnol-3-clock-requires : tie.Need-egrynnol-3-clock-requires
-egrynnol-3-clock-requires c κs = search needs
+egrynnol-4-clock-requires : tie.Need-egrynnol-4-clock-requires
+egrynnol-4-clock-requires c κs = search needs
 
 same-length : tie.Need-same-length
 same-length c = search needs
@@ -16,7 +16,7 @@ returns : tie.Need-returns
 returns c =
     let g = c .before .before in
     let a = g .before .before .before .before .args in
-    of-clock (a .t) (now (a .m)) (now (a .report)) (a .time) _ _ _ (omega arith) (g .egrynnol-3-clock .ensures)
+    of-clock (a .t) (now (a .m)) (now (a .report)) (a .time) _ _ _ (omega arith) (g .egrynnol-4-clock .ensures)
 
 pub c-clock-spec : {M : Type 1} → statement M
-c-clock-spec = tie.close (tie.spec egrynnol-3-clock-requires same-length returns)
+c-clock-spec = tie.close (tie.spec egrynnol-4-clock-requires same-length returns)

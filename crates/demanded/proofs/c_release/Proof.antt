@@ -6,8 +6,8 @@ use borrow.Author.Needs.{needs}
 use Rattle.demanded.proofs.c_release.Statement.{statement}
 use Rattle.demanded.proofs.c_release.Tie as tie
 
-egrynnol-3-release-requires : tie.Need-egrynnol-3-release-requires
-egrynnol-3-release-requires c κs = search needs
+egrynnol-4-release-requires : tie.Need-egrynnol-4-release-requires
+egrynnol-4-release-requires c κs = search needs
 
 same-length : tie.Need-same-length
 same-length c = search needs
@@ -16,7 +16,7 @@ returns : tie.Need-returns
 returns c =
     let g = c .before .before in
     let a = g .before .before .before .before .args in
-    of-release (a .t) (now (a .m)) (now (a .report)) (a .association) _ _ _ (omega arith) (g .egrynnol-3-release .ensures)
+    of-release (a .t) (now (a .m)) (now (a .report)) (a .association) _ _ _ (omega arith) (g .egrynnol-4-release .ensures)
 
 pub c-release-spec : {M : Type 1} → statement M
-c-release-spec = tie.close (tie.spec egrynnol-3-release-requires same-length returns)
+c-release-spec = tie.close (tie.spec egrynnol-4-release-requires same-length returns)

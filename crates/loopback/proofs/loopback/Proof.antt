@@ -3,7 +3,7 @@ use denote.Ref.{now}
 use native.Mathlib.Omega.{arith}
 use Rattle.rules.specs.Calls.{lending}
 use Rattle.loop_laps.specs.Laps.{asked}
-use Rattle.loopback.proofs.Owned.{owned}
+use Rattle.loopback.proofs.Owned.{owned, owned-clock}
 use Rattle.loopback.proofs.Back.{looping-unfit, looping-unsent, area-unsent, refusal-is, area-is, some-sent, kept-unmoved, kept-done}
 use borrow.Author.Needs.{needs}
 use Rattle.loopback.proofs.loopback.Statement.{statement}
@@ -24,7 +24,7 @@ returns c =
     let s = n .before .before .before .before .before .before .before .before in
     let a = s .args in
     let x = asked (a .t) (a .q) (a .association) (now (a .origin)) (now (a .destination)) (now (a .whole)) in
-    kept-unmoved x (now (a .m)) (now (a .store)) (lending (now (a .report)) (now (a .area))) (n .numbers .ensures .1) (owned (a .t) (s .good .0)) (omega arith) _ _ _ (c .refused .ensures)
+    kept-unmoved x (now (a .m)) (now (a .store)) (lending (now (a .report)) (now (a .area))) (n .numbers .ensures .1) (owned (a .t) (s .good .0)) (owned-clock (a .t) (s .good .0)) (omega arith) _ _ _ (c .refused .ensures)
     (looping-unfit x (now (a .m)) (now (a .store)) (lending (now (a .report)) (now (a .area))) _ (c .before .before .unfit .ensures) (c .before .if1 .taken)) refl
 
 for-segment-requires : tie.Need-for-segment-requires
@@ -48,7 +48,7 @@ returns-2 c =
     let a = s .args in
     let x = asked (a .t) (a .q) (a .association) (now (a .origin)) (now (a .destination)) (now (a .whole)) in
     let e = refusal-is x (now (a .m)) (now (a .store)) (lending (now (a .report)) (now (a .area))) _ _ _ (sent .before .before .for-segment .ensures) (sent .sending .ensures) in
-    kept-unmoved x (now (a .m)) (now (a .store)) (lending (now (a .report)) (now (a .area))) (n .numbers .ensures .1) (owned (a .t) (s .good .0)) (omega arith) _ _ _ (c .refused2 .ensures)
+    kept-unmoved x (now (a .m)) (now (a .store)) (lending (now (a .report)) (now (a .area))) (n .numbers .ensures .1) (owned (a .t) (s .good .0)) (owned-clock (a .t) (s .good .0)) (omega arith) _ _ _ (c .refused2 .ensures)
     (looping-unsent x (now (a .m)) (now (a .store)) (lending (now (a .report)) (now (a .area))) _ (sym (u .unfit .ensures) ∙ sent .before .before .before .if1 .left) e (c .before .if2 .taken))
     (ap (lending (now (a .report))) (area-is x (now (a .m)) (now (a .store)) (lending (now (a .report)) (now (a .area))) _ _ _ (sent .before .before .for-segment .ensures) (sent .sending .ensures)
     ∙ area-unsent x (now (a .m)) (now (a .store)) (lending (now (a .report)) (now (a .area))) _ e (c .before .if2 .taken)))
@@ -91,7 +91,7 @@ returns-3 c =
     let a = s .args in
     let x = asked (a .t) (a .q) (a .association) (now (a .origin)) (now (a .destination)) (now (a .whole)) in
     kept-done x (now (a .m)) (now (a .store)) (lending (now (a .report)) (now (a .area))) _ _ _ (sent .before .before .for-segment .ensures) (sent .sending .ensures)
-    (n .numbers .ensures .1) (owned (a .t) (s .good .0)) (omega arith) (sym (u .unfit .ensures) ∙ sent .before .before .before .if1 .left) (e .if2 .left) _ _ _ _ (r .receive .ensures) _ _ _ _ (o .others .ensures)
+    (n .numbers .ensures .1) (owned (a .t) (s .good .0)) (owned-clock (a .t) (s .good .0)) (omega arith) (sym (u .unfit .ensures) ∙ sent .before .before .before .if1 .left) (e .if2 .left) _ _ _ _ (r .receive .ensures) _ _ _ _ (o .others .ensures)
 
 pub loopback-spec : {M : Type 1} → statement M
 loopback-spec =

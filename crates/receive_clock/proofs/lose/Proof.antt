@@ -32,7 +32,7 @@ returns-2 c =
     let a = b .before .before .before .before .args in
     let is = swept-is (a .which) (a .time) (a .t) (a .m .now) (a .report .now) (b .billed .result) (b .billed .ensures .0) in
     let yes = not-false (b .billed .result) (e .if1 .left) in
-    (rw (is, yes) (s .swept .ensures .0), (rw (is, yes) (b .billed .ensures .1 yes), rw (is, yes) (s .swept .ensures .1)))
+    (rw (is, yes) (s .swept .ensures .0), (rw (is, yes) (b .billed .ensures .1 yes), rw (is, yes) (s .swept .ensures .1 .0)))
 
 pub lose-spec : {M : Type 1} → statement M
 lose-spec =

@@ -6,15 +6,6 @@ use borrow.Author.Needs.{needs}
 use Rattle.receive_segment.proofs.segment.Statement.{statement}
 use Rattle.receive_segment.proofs.segment.Tie as tie
 
-look-idle-requires : tie.Need-look-idle-requires
-look-idle-requires c κs = search needs
-
-is-sound-requires : tie.Need-is-sound-requires
-is-sound-requires c κs = search needs
-
-is-summed-requires : tie.Need-is-summed-requires
-is-summed-requires c κs = search needs
-
 seek-requires : tie.Need-seek-requires
 seek-requires c κs = search needs
 
@@ -49,10 +40,10 @@ perform-requires c κs =
     let l = n .before .before in
     let j = l .before in
     let k = j .before .before in
-    let u = k .before in
-    let a = u .before .before .before .before .before .before .before .args in
+    let u = k .before .before .before .before in
+    let a = u .args in
     let weighs = rw (l .tail .ensures) at (n .count .ensures) in
-    (k .seek .ensures .0 .1, rw (l .tail .ensures) (settled-fits (a .t) (now (a .m)) (now (a .store)) (now (a .report)) (a .association) (now (a .s)) (u .is-summed .result) (u .is-summed .ensures) (k .seek .result .search .at) (k .seek .result .key) (j .judge .result) (j .judge .ensures) (n .count .result) weighs _ refl (g .settle .result) (g .settle .ensures .0) (g .settle .ensures .1)))
+    (k .seek .ensures .0 .1, rw (l .tail .ensures) (settled-fits (a .t) (now (a .m)) (now (a .store)) (now (a .report)) (a .association) (now (a .s)) (a .is-summed) (u .pre .1) (k .seek .result .search .at) (k .seek .result .key) (j .judge .result) (j .judge .ensures) (n .count .result) weighs _ refl (g .settle .result) (g .settle .ensures .0) (g .settle .ensures .1)))
 
 mul-put : tie.Need-mul-put
 mul-put c =
@@ -83,13 +74,13 @@ returns c =
     let l = n .before .before in
     let j = l .before in
     let k = j .before .before in
-    let u = k .before in
-    let a = u .before .before .before .before .before .before .before .args in
+    let u = k .before .before .before .before in
+    let a = u .args in
     let weighs = rw (l .tail .ensures) at (n .count .ensures) in
-    let leads = settled (a .t) (now (a .m)) (now (a .store)) (now (a .report)) (a .association) (now (a .s)) (u .is-summed .result) (u .is-summed .ensures) (k .seek .result .search .at) (k .seek .result .key) (j .judge .result) (j .judge .ensures) (n .count .result) weighs _ refl (g .settle .result) (g .settle .ensures .0) (g .settle .ensures .1) in
+    let leads = settled (a .t) (now (a .m)) (now (a .store)) (now (a .report)) (a .association) (now (a .s)) (a .is-summed) (u .pre .1) (k .seek .result .search .at) (k .seek .result .key) (j .judge .result) (j .judge .ensures) (n .count .result) weighs _ refl (g .settle .result) (g .settle .ensures .0) (g .settle .ensures .1) in
     record {
       answered = c .received .ensures ∙ leads .answered;
-      summed = settled-sums (a .t) (now (a .m)) (now (a .store)) (now (a .report)) (a .association) (now (a .s)) (u .is-summed .result) (u .is-summed .ensures) (k .seek .result .search .at) (k .seek .result .key) (j .judge .result) (j .judge .ensures) (n .count .result) weighs _ refl (g .settle .result) (g .settle .ensures .0) (g .settle .ensures .1) _ (rw (l .tail .ensures) at (y .tally .ensures .0)) (y .tally .ensures .1);
+      summed = settled-sums (a .t) (now (a .m)) (now (a .store)) (now (a .report)) (a .association) (now (a .s)) (a .is-summed) (u .pre .1) (k .seek .result .search .at) (k .seek .result .key) (j .judge .result) (j .judge .ensures) (n .count .result) weighs _ refl (g .settle .result) (g .settle .ensures .0) (g .settle .ensures .1) _ (rw (l .tail .ensures) at (y .tally .ensures .0)) (y .tally .ensures .1);
       stored = rw (l .tail .ensures) at (p .perform .ensures .0) ∙ leads .stored;
       reported = p .perform .ensures .1 ∙ leads .reported;
     }
@@ -98,9 +89,6 @@ pub segment-spec : {M : Type 1} → statement M
 segment-spec =
     tie.close
     (tie.spec
-    look-idle-requires
-    is-sound-requires
-    is-summed-requires
     seek-requires
     mul-held
     element-copy-out-held

@@ -2,7 +2,7 @@ use Prim.Native.Nat.{_-_}
 use mathlib.Core.Path.{refl, sym, _∙_}
 use mathlib.Core.Logic.{⊎-elim}
 use lib.ListN.{length-map}
-use Rattle.receive_sweep.proofs.Sweeping.{Sofar, turn-due, turn-left, all-answered, all-reported}
+use Rattle.receive_sweep.proofs.Sweeping.{Sofar, turn-due, turn-left, all-answered, all-reported, all-sized}
 use native.Mathlib.Omega.{arith}
 use borrow.Author.Needs.{needs}
 use Rattle.receive_sweep.proofs.swept.Statement.{statement}
@@ -16,7 +16,7 @@ abbrev μ-loop : tie.MeasureT-loop
 
 loop-holds : tie.Need-loop-holds Inv-loop μ-loop
 loop-holds c =
-    record { size = simp length-map at (c .before .good .0 .1 .1 .0 .1 .0 .1); inside = omega arith; few = omega arith; area = refl; table = refl; counted = omega arith; written = refl }
+    record { size = simp length-map at (c .before .good .0 .1 .1 .0 .1 .0 .1); inside = omega arith; few = omega arith; area = refl; table = refl; counted = omega arith; sized = omega arith; written = refl }
 
 mul-p : tie.Need-mul-p Inv-loop μ-loop
 mul-p c = omega arith
@@ -67,7 +67,7 @@ same-length c = omega arith
 returns : tie.Need-returns Inv-loop μ-loop
 returns c =
     let l = c .before .loop in
-    (all-answered (l .inv) (c .loop-test .left) _, all-reported (l .inv) (c .loop-test .left) _)
+    (all-answered (l .inv) (c .loop-test .left) _, (all-reported (l .inv) (c .loop-test .left) _, (omega arith, all-sized (l .inv) (c .loop-test .left))))
 
 pub swept-spec : {M : Type 1} → statement M
 swept-spec =

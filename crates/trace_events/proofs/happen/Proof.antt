@@ -1,4 +1,4 @@
-use Rattle.trace_events.proofs.Calling.{of-opening, of-segment, of-clock, of-release}
+use Rattle.trace_events.proofs.Calling.{of-opening, of-arrival, of-clock, of-release}
 use borrow.Author.Needs.{needs}
 use Rattle.trace_events.proofs.happen.Statement.{statement}
 use Rattle.trace_events.proofs.happen.Tie as tie
@@ -45,7 +45,7 @@ same-length-2 c = search needs
 returns-2 : tie.Need-returns-2
 returns-2 c =
     let a = c .before .before .before .before in
-    rw (a .before .before .before .before .before .e2 .given .1) (of-segment _ _ _ _ _ _ _ _ _ _ (a .arrive .ensures))
+    rw (a .before .before .before .before .before .e2 .given .1) (of-arrival _ _ _ _ _ _ _ _ _ _ _ (a .arrive .ensures))
 
 same-length-3 : tie.Need-same-length-3
 same-length-3 c = search needs

@@ -4,13 +4,13 @@ use mathlib.Core.Path.{_≡_, _∙_}
 use native.Mathlib.Omega.{arith}
 use borrow.Author.Needs.{needs}
 use lib.ListN.{length, length-replicate}
-use Rattle.rules.specs.Sweep.{reportLeast}
+use Rattle.rules.specs.Arrival.{arrivalLeast}
 use Rattle.trace_session.proofs.run.Statement.{statement}
 use Rattle.trace_session.proofs.run.Tie as tie
 
 abbrev Inv-loop : tie.InvT-loop
 Inv-loop which unread unwritten summary₀ store₀ report₀ input₀ out₀ s₀ turns₀ summary store report input out s turns =
-    (length store ≡ 32768) × (length report ≡ reportLeast) × (length input ≡ 65536) × (length out ≡ 65536) × (s .have ≤ 65536)
+    (length store ≡ 32768) × (length report ≡ arrivalLeast) × (length input ≡ 65536) × (length out ≡ 65536) × (s .have ≤ 65536)
 
 abbrev μ-loop : tie.MeasureT-loop
 μ-loop which unread unwritten summary₀ store₀ report₀ input₀ out₀ s₀ turns₀ summary store report input out s turns = turns
@@ -20,7 +20,7 @@ beginning-requires c κs = search needs
 
 loop-holds : tie.Need-loop-holds Inv-loop μ-loop
 loop-holds c =
-    (length-replicate {A = ℕ} 32768 0, length-replicate {A = ℕ} reportLeast 0, length-replicate {A = ℕ} 65536 0, length-replicate {A = ℕ} 65536 0, omega (arith, c .beginning .ensures))
+    (length-replicate {A = ℕ} 32768 0, length-replicate {A = ℕ} arrivalLeast 0, length-replicate {A = ℕ} 65536 0, length-replicate {A = ℕ} 65536 0, omega (arith, c .beginning .ensures))
 
 slice-aggregate-step : tie.Need-slice-aggregate-step Inv-loop μ-loop
 slice-aggregate-step c = search needs

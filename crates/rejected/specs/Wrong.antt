@@ -1,7 +1,7 @@
 -- WRONG MACHINES. Each is ours but for one error, and breaks a demand: proofs/Rejected.antt.
 use Prim.Native.Nat.{ℕ, _+_, _-_, _%_}
 use mathlib.Core.Bool.{Bool, true, false, not, _&&_}
-use mathlib.Core.List.{List, [], _∷_, map}
+use mathlib.Core.List.{List, [], _∷_, _++_, map}
 use lib.Dec.{eqb, leb, ltb}
 use lib.ListN.{length, take, drop, getD, set, replicate}
 use Rattle.octets.specs.Number.{number}
@@ -13,14 +13,15 @@ use Rattle.rules.specs.Registry.{kindOf}
 use Rattle.rules.specs.Records.{delivered, lost, addressOf, recordOctets, recordsOctets}
 use Rattle.rules.specs.Layout.{isUnsegmented, fieldsOf, contextOctets, parameterOctets}
 use Rattle.rules.specs.Places.{freePlace, isOpen, isFree, sameOctets, sameAddress, firstFrom, placeOf, lowestFree, isAt, placeAt, putPlace}
-use Rattle.rules.specs.Receiving.{keyOf, informationOf, recordWith, openPlace, lineOf, Effect, effectOf, receptionOf}
+use Rattle.rules.specs.Receiving.{keyOf, informationOf, recordWith, openPlace, lineOf, lineAt, Effect, effectOf, receptionOf, receivedAt, takingChecks}
 use Rattle.rules.specs.Sweep.{Sweeping, sweep}
-use Rattle.rules.specs.Summary.{counting, unusedRow, tally, tookAt, took, billed, segmentSums, sweepSums}
+use Rattle.rules.specs.Summary.{Counted, counting, unusedRow, tally, tookAt, took, billed, segmentSums, sweepSums}
+use Rattle.rules.specs.Arrival.{tableAfter, behind, stands, bothWith}
 use Rattle.rules.specs.Opening.{registryWith}
 use Rattle.rules.specs.Delivery.{delivery, partOfPlace}
 use Rattle.rules.specs.Sending.{headerLength, isSegmented, countOf, firstCarries, laterCarries, pieceOf, headingFor, carried, segmentOctets}
-use Rattle.rules.specs.Calls.{State, stateOf, Call, Opens, Arrives, Ticks, Releases, Sends, Arrival, Tick, Release, Dispatch, lending, Decided, Undecided, As, Answer, answering, refusing}
-use Rattle.rules.specs.Calls.{Outcome, afterSegment, afterSweep, afterSending, step}
+use Rattle.rules.specs.Calls.{State, stateOf, Call, Opens, Arrives, Ticks, Releases, Sends, toArrive, toTick, Arrival, Tick, Release, Dispatch, lending, Decided, Undecided, As, Answer, answering, refusing}
+use Rattle.rules.specs.Calls.{Outcome, afterArrival, afterSweep, afterSending, step}
 use Rattle.rules.specs.declared.Address.{Address}
 use Rattle.rules.specs.declared.Key.{Key}
 use Rattle.rules.specs.declared.Fields.{Fields}
@@ -36,8 +37,9 @@ use Rattle.rules.specs.declared.Line.the-variants.{Unsegmented, Broken, Restart
 use Rattle.rules.specs.declared.Part.the-variants.{OfParameter, OfStore}
 use Rattle.rules.specs.declared.Decision.{Decision}
 use Rattle.rules.specs.declared.Decision.the-variants.{Refused, Saved, Delivered, Lost}
-use Rattle.demands.specs.Machine.{Machine, checksOf}
-use Rattle.demands.specs.History.{isRestart, recordsIn}
+use Rattle.demands.specs.Machine.{Machine, clockOf, checksOf}
+use Rattle.demands.specs.Demand1.{unmoved, refusedOutcome, faultIn}
+use Rattle.demands.specs.History.{isRestart, recordsIn, timeoutsIn, ownIn}
 
 abbrev outcome : Answer → State → Outcome
 outcome a st = record { answer = a; state = st }
@@ -88,7 +90,7 @@ abbrev pub losesAll : Machine
 losesAll = whereAccepted (onSegment (λ st x.
     let f : Fields = fieldsOf (st .table .registry) (x .parameter) in
     let r : Record = recordWith lost 1 (keyOf (x .association) (x .parameter) f) (f .heading .instruction) 1 (length (informationOf (x .parameter) f)) in
-    outcome (answering (unplaced 0) 1 (As (Lost 1 Nothing)) (lending (splice (x .report) 0 (recordOctets r)) [])) st))
+    outcome (answering (unplaced 0) 1 0 (As (Lost 1 Nothing)) (lending (splice (x .report) 0 (recordOctets r)) [])) st))
 
 -- the right answers, and table and store stay as before the segment
 abbrev pub forgets : Machine
@@ -103,7 +105,7 @@ savesFirst = stepping (onSegment (λ st x.
 
 -- an answer with these records at the front of its report
 abbrev reporting : Answer → List Record → Answer
-reporting a rs = answering (unplaced (a .refusal)) (length rs) (a .decided) (lending (splice (a .lent .report) 0 (recordsOctets rs)) (a .lent .area))
+reporting a rs = answering (unplaced (a .refusal)) (length rs) (a .timeouts) (a .decided) (lending (splice (a .lent .report) 0 (recordsOctets rs)) (a .lent .area))
 
 -- the records of every receiving call are others
 abbrev recording : (Record → Record) → Machine
@@ -173,7 +175,7 @@ releasesNothing = whereAccepted (onRelease (λ st x. outcome (refusing (unplaced
 abbrev pub recordsSending : Machine
 recordsSending = stepping (onSending (λ st x.
     let a : Answer = step st (Sends x) .answer in
-    outcome (record { refusal = a .refusal; position = a .position; records = 1; decided = a .decided; count = a .count; length = a .length; lent = a .lent }) st))
+    outcome (record { refusal = a .refusal; position = a .position; records = 1; timeouts = 0; decided = a .decided; count = a .count; length = a .length; lent = a .lent }) st))
 
 -- THE RELEASE, as the rules have it but for the table that it leaves with nothing open
 abbrev pub emptying : (Table → Table) → Machine
@@ -241,7 +243,7 @@ writesNonsense = sending (λ t area kind q o d whole.
     let l : List ℕ = segmentOctets kind q o d whole in
     if ltb (length area) parameterMost then replicate (length l) 0 else l)
 
--- THE CALLS OF A SEGMENT, as the rules have them but for four things: how the place of a key is found and one for a new sequence chosen, which line applies, and what is made of
+-- THE SEGMENT OF AN ARRIVAL, as the rules have it but for four things: how the place of a key is found and one for a new sequence chosen, which line applies, and what is made of
 -- its effect
 abbrev Finding : Type 0
 Finding = Key → List Place → Found
@@ -255,18 +257,20 @@ Deciding = Bool → ℕ → ℕ → Heading → ℕ → Line
 abbrev Changing : Type 0
 Changing = Line → Table → Fields → Found → Place → Effect → Effect
 
--- what an accepted segment comes to
+-- what an accepted arrival comes to: its segment meets what its clock work leaves
 abbrev joined : Finding → Choosing → Deciding → Changing → State → Arrival → Outcome
 joined find choose decide change st x =
-    let f : Fields = fieldsOf (st .table .registry) (x .parameter) in
+    let w : Counted Sweeping = clockOf st x in
+    let t : Table = tableAfter w in
+    let f : Fields = fieldsOf (t .registry) (x .parameter) in
     let key : Key = keyOf (x .association) (x .parameter) f in
     let octets : List ℕ = informationOf (x .parameter) f in
-    let place : Found = find key (st .table .places) in
-    let p : Place = placeAt (st .table .places) place in
+    let place : Found = find key (t .places) in
+    let p : Place = placeAt (t .places) place in
     let line : Line = decide (isAt place) (p .remaining .0) (p .octets) (f .heading) (length octets) in
-    let e : Effect = effectOf line (st .table) (st .store) key f octets place p (choose (st .table .places)) in
-    let m : List ℕ = segmentSums (st .table) (st .summary) (st .store) (x .report) (x .association) (x .parameter) in
-    afterSegment (counting m (receptionOf (st .table) (x .report) (change line (st .table) f place p e)))
+    let e : Effect = effectOf line t (st .store) key f octets place p (choose (t .places)) in
+    let m : List ℕ = segmentSums t (w .summary) (st .store) (behind w) (x .association) (x .parameter) in
+    afterArrival (bothWith w (counting m (receptionOf t (behind w) (change line t f place p e))))
 
 abbrev pub joining : Finding → Choosing → Deciding → Changing → Machine
 joining find choose decide change = whereAccepted (onSegment (joined find choose decide change))
@@ -407,10 +411,10 @@ abbrev pub startsAnew : Machine
 startsAnew = changing (λ line t f place p e.
     if isNext line then leaving e (putPlace (e .places) place (startedAt (t .clock) (placeAt (e .places) place))) else e)
 
--- THE CHECKS OF A SEGMENT, as the rules have them but for those that are not made
+-- THE CHECKS OF AN ARRIVAL, as the rules have them but for those that are not made
 abbrev pub checking : (Check → Bool) → Machine
 checking isMade = stepping (onSegment (λ st x.
-    judgedAt (those isMade (checksOf st (Arrives x))) (λ e. outcome (refusing e (Arrives x)) st) (joined placeOf lowestFree lineOf unchanged st x)))
+    judgedAt (those isMade (checksOf st (Arrives x))) (λ e. refusedOutcome st (Arrives x) e) (joined placeOf lowestFree lineOf unchanged st x)))
 
 abbrev pub allMade : Check → Bool
 allMade c = true
@@ -419,13 +423,13 @@ allMade c = true
 abbrev pub takesPadded : Machine
 takesPadded = checking (λ c. not (eqb (c .number) 23))
 
--- THE POSITIONS that a segment's answer names, as the rules have them but for a change, by the number
+-- THE POSITIONS that an arrival's answer names, as the rules have them but for a change, by the number
 abbrev pub blaming : (ℕ → ℕ → ℕ) → Machine
 blaming change = stepping (onSegment (λ st x.
     let o : Outcome = step st (Arrives x) in
     let a : Answer = o .answer in
     outcome
-    (record { refusal = a .refusal; position = change (a .refusal) (a .position); records = a .records; decided = a .decided; count = a .count; length = a .length; lent = a .lent })
+    (record { refusal = a .refusal; position = change (a .refusal) (a .position); records = a .records; timeouts = a .timeouts; decided = a .decided; count = a .count; length = a .length; lent = a .lent })
     (o .state)))
 
 abbrev pub asBlamed : ℕ → ℕ → ℕ
@@ -447,6 +451,74 @@ sweeping due = whereAccepted (onClock (λ st x.
 -- an age is the new time less the old by plain subtraction, which the clock's turn makes 0
 abbrev pub subtractsPlainly : Machine
 subtractsPlainly = sweeping (λ time timer p. isOpen p && leb timer (time - p .start))
+
+-- THE TWO PARTS OF AN ARRIVAL (document 02, A6), as the rules have them but for how they are put together
+abbrev pub parting : (State → Arrival → Outcome) → Machine
+parting f = stepping (onSegment f)
+
+abbrev pub asParted : State → Arrival → Outcome
+asParted st x = step st (Arrives x)
+
+-- a table with another time
+abbrev atTime : ℕ → Table → Table
+atTime time t = record { places = t .places; registry = t .registry; timer = t .timer; clock = time }
+
+abbrev atTimeIn : ℕ → Outcome → Outcome
+atTimeIn time o = outcome (o .answer) (stateOf (atTime time (o .state .table)) (o .state .summary) (o .state .store))
+
+-- the segment's work is done first, at the table's old time: an arrival at that time, and then the clock's call, whose records are told before
+abbrev pub segmentFirst : Machine
+segmentFirst = whereAccepted (onSegment (λ st x.
+    let o : Outcome = step st (toArrive (st .table .clock) (x .association) (x .parameter) (x .report)) in
+    let c : Outcome = step (o .state) (toTick (x .time) (x .report)) in
+    let a : Answer = o .answer in
+    outcome
+    (answering (unplaced 0) (c .answer .records + a .records) (c .answer .records) (a .decided)
+    (lending (splice (x .report) 0 (recordsOctets (recordsIn (c .answer) ++ recordsIn a))) []))
+    (c .state)))
+
+-- where the segment is refused the clock's work is undone
+abbrev pub undoesClock : Machine
+undoesClock = parting (λ st x.
+    let o : Outcome = step st (Arrives x) in
+    if stands (o .answer .refusal) then unmoved st (Arrives x) (faultIn (o .answer)) else o)
+
+-- at a 22 the new time is kept
+abbrev pub keepsAt22 : Machine
+keepsAt22 = parting (λ st x.
+    let o : Outcome = step st (Arrives x) in
+    if eqb (o .answer .refusal) 22 then atTimeIn (x .time) o else o)
+
+-- a sequence starts at the table's old time: the segment meets it, and the new time is set after
+abbrev pub startsOld : Machine
+startsOld = whereAccepted (onSegment (λ st x.
+    let w : Counted Sweeping = clockOf st x in
+    let t : Table = atTime (st .table .clock) (tableAfter w) in
+    let m : List ℕ = segmentSums t (w .summary) (st .store) (behind w) (x .association) (x .parameter) in
+    atTimeIn (x .time) (afterArrival (bothWith w (counting m (receivedAt t (st .store) (behind w) (x .association) (x .parameter)))))))
+
+-- whether a place is free is asked before the clock's work
+abbrev pub judgesRoomFirst : Machine
+judgesRoomFirst = parting (λ st x.
+    let f : Fields = fieldsOf (st .table .registry) (x .parameter) in
+    let line : Line = lineAt (st .table) (keyOf (x .association) (x .parameter) f) (f .heading) (length (informationOf (x .parameter) f)) in
+    if accepted (takingChecks line (st .table .places)) then step st (Arrives x) else unmoved st (Arrives x) (unplaced 10))
+
+-- the segment's record stands first, and the clock's behind it
+abbrev pub ownFirst : Machine
+ownFirst = parting (λ st x.
+    let o : Outcome = step st (Arrives x) in
+    let a : Answer = o .answer in
+    outcome
+    (record { refusal = a .refusal; position = a .position; records = a .records; timeouts = a .timeouts; decided = a .decided; count = 0; length = 0; lent = lending (splice (x .report) 0 (recordsOctets (ownIn a ++ timeoutsIn a))) [] })
+    (o .state))
+
+-- no record is said to be the clock's
+abbrev pub claimsAll : Machine
+claimsAll = parting (λ st x.
+    let o : Outcome = step st (Arrives x) in
+    let a : Answer = o .answer in
+    outcome (record { refusal = a .refusal; position = a .position; records = a .records; timeouts = 0; decided = a .decided; count = 0; length = 0; lent = a .lent }) (o .state))
 
 -- THE SUMMARY, as the rules have it but for the numbers that a call leaves
 abbrev pub summing : (State → Call → Outcome → List ℕ) → Machine

@@ -3,8 +3,8 @@ use Rattle.host_numbers.specs.Crossing.{decisionOf}
 use mathlib.Core.Path.{_∙_}
 use borrow.Author.Needs.{needs}
 use Rattle.host_numbers.proofs.Crossing.{taken-delivery, delivery-within}
-use Rattle.host.proofs.egrynnol_3_delivery.Statement.{statement}
-use Rattle.host.proofs.egrynnol_3_delivery.Tie as tie
+use Rattle.host.proofs.egrynnol_4_delivery.Statement.{statement}
+use Rattle.host.proofs.egrynnol_4_delivery.Tie as tie
 
 decision-of-requires : tie.Need-decision-of-requires
 decision-of-requires c κs = search needs
@@ -24,6 +24,6 @@ returns c =
     let a = c .before .before .before .before .before .args in
     record { answered = c .located-at .ensures ∙ rw (n, d); delivered = rw (c .located-at .ensures, n, d) (taken-delivery (now (a .s)) (now (a .store)) (decisionOf (a .decision))) }
 
-pub egrynnol-3-delivery-spec : {M : Type 1} → statement M
-egrynnol-3-delivery-spec =
+pub egrynnol-4-delivery-spec : {M : Type 1} → statement M
+egrynnol-4-delivery-spec =
     tie.close (tie.spec decision-of-requires delivery-requires located-at-requires returns)

@@ -1,54 +1,60 @@
 -- Every wrong machine breaks a demand, at a small trace: registry 01 00 03, 02 00 04; T 100; clock 0; association 9. A name without a number refutes the demand that
 -- the machine was made to break; one with a number refutes that demand too.
-use Prim.Native.Nat.{ℕ, zero, suc, _≤_, _<_, _^_}
+use Prim.Native.Nat.{ℕ, zero, suc, _<_, _^_}
 use native.Mathlib.Omega.{arith}
 use mathlib.Core.Path.{_≡_, refl, sym, ap}
 use mathlib.Core.Bool.{Bool, true, false, true≢false}
 use mathlib.Core.List.{List, [], _∷_, _++_}
-use lib.ListN.{length, getD, replicate, length-replicate}
+use lib.ListN.{length, getD, set, replicate, length-replicate}
 use Rattle.octets.specs.Splice.{splice}
 use Rattle.rules.specs.General.{if_then_else_, every, those}
 use Rattle.rules.specs.Numbers.{elapsed, storeLeast, placeCount, addressMost}
 use Rattle.rules.specs.Refusals.{Check, accepted}
 use Rattle.rules.specs.Layout.{fieldsOf, readingChecks, parameterOctets}
 use Rattle.rules.specs.Registry.{kindOf}
-use Rattle.rules.specs.Records.{delivered, lost, addressOf, recordOctets, recordFrom, recordLength}
+use Rattle.rules.specs.Records.{delivered, lost, addressOf, recordOctets, recordFrom}
 use Rattle.rules.specs.Places.{sameAddress, sameKey, isFree, placeOf, lowestFree, freePlace}
 use Rattle.rules.specs.Soundness.{addressSound, openSound, freeSound, sound}
-use Rattle.rules.specs.Receiving.{lineOf, effectOf, segmentChecks}
-use Rattle.rules.specs.Sweep.{sweep, isDue, clockChecks, releaseChecks, reportLeast}
-use Rattle.rules.specs.Summary.{summaryLength, rowCount, totalCount, summarySound, fits, segmentSums, segmentChecksWith, segmentWith, clockChecksWith, clockWith, releaseChecksWith, releaseWith, emptySummary}
+use Rattle.rules.specs.Receiving.{lineOf, effectOf, openPlace}
+use Rattle.rules.specs.Sweep.{sweep, isDue, clockChecks, releaseChecks}
+use Rattle.rules.specs.Summary.{totalMost, summaryLength, rowCount, totalCount, summarySound, fits, segmentSums, clockChecksWith, clockWith, releaseChecksWith, releaseWith, emptySummary}
+use Rattle.rules.specs.Arrival.{arrivalLeast, wholeChecks, partChecks, bothChecks, arrivalChecks, arrival, bothWith}
 use Rattle.rules.specs.Delivery.{delivery}
 use Rattle.rules.specs.Opening.{noEntry, opening}
 use Rattle.rules.specs.Sending.{segmentOctets, sendingChecks, sending}
 use Rattle.rules.specs.Examples.{fresh}
-use Rattle.rules.specs.Calls.{State, stateOf, Opening, Call, Opens, Arrives, Ticks, Releases, Sends, toArrive, toTick, toRelease, Decided, Undecided, As, Answer, refusing, Outcome, step}
+use Rattle.rules.specs.Calls.{State, stateOf, Opening, Call, Opens, Arrives, Ticks, Releases, Sends, Arrival, toArrive, toTick, toRelease, Decided, Undecided, As, Answer, Outcome, afterArrival, step}
 use Rattle.rules.proofs.Refusals.{fault-by}
 use Rattle.rules.specs.declared.Entry.{Entry}
 use Rattle.rules.specs.declared.Address.{Address}
 use Rattle.rules.specs.declared.Key.{Key}
+use Rattle.rules.specs.declared.Place.{Place}
+use Rattle.rules.specs.declared.Table.{Table}
 use Rattle.rules.specs.declared.Part.the-variants.{OfStore}
 use Rattle.rules.specs.declared.Decision.the-variants.{Refused, Saved, Delivered, Lost}
-use Rattle.demands.specs.Machine.{Machine, checksOf, All, InRange, TypedPlace}
+use Rattle.demands.specs.Machine.{Machine, checksOf, clockOf, wholeOf, CanCount, All, InRange, TypedPlace}
 use Rattle.demands.specs.Seen.{Seen, seenBy, runOf}
 use Rattle.demands.specs.History.{Told, deedsOf, after, covers, EachIn, silence, Along, Meets}
-use Rattle.demands.specs.Demand1.{Demand1}
-use Rattle.demands.specs.Demand2.{Demand2, Shipment, Sender, sendingOf, Sendable, countIn, keyIn, Ready, RoundTrip, stop, mine}
+use Rattle.demands.specs.Demand1.{refusedOutcome, Demand1}
+use Rattle.demands.specs.Demand2.{Demand2, Shipment, Sender, sendingOf, Sendable, countIn, keyIn, SparesTime, Slot, arrivalIn, arrivalOf, Comes, Ready, RoundTrip, stop, mine}
 use Rattle.demands.specs.Demanded.{CanBeSent}
 use Rattle.demands.specs.Exchanges.{OtherDestination, TwoFree, stop as neither, ofOne, ofTwo, Exchanges}
 use Rattle.demands.specs.Demand3.{Demand3, Ending, View, held}
 use Rattle.demands.specs.Timer.{Timer}
 use Rattle.demands.specs.Release.{Release}
 use Rattle.demands.specs.Totals.{totalsOf, Totals}
 use Rattle.demands.specs.Exactly.{Exactly, Bits, OfAddress, OfPlace, OfEntry, OfState, OfCall}
-use Rattle.demands.specs.Wrong
-use Rattle.demands.specs.Wrong.{joining, unchanged, checking, allMade, blaming, asBlamed, sweeping, emptying, asRuled, asSummed}
-use Rattle.demands.specs.Wrong.{refuses, losesAll, forgets, savesFirst, invents, inventsOctets, neverRefuses, takesPadded, blamesNext, blamesAlways, swallows, handsOutEarly, handsOutMore}
-use Rattle.demands.specs.Wrong.{losesNothing, releasesNothing, recordsSending, clearsRegistry, movesTimer, movesClock}
-use Rattle.demands.specs.Wrong.{leavesOut, setsSpare, cutsPast, cutsByClock, writesNonsense}
-use Rattle.demands.specs.Wrong.{comparesNumbers, comparesFilled, comparesNumbersTo, comparesFilledTo, passesOver, recordsOriginTwice, takesHighest, losesEmpty, joinsOverGap, exchangesCauses, callsItDelivered}
-use Rattle.demands.specs.Wrong.{dropsRestart, countsSaved, tellsLast, startsAnew, subtractsPlainly}
-use Rattle.demands.specs.Wrong.{countsRefused, billsRestart, forgetsReleases, keepsRows, givesSecond, takesParameter, missesStrays}
+use Rattle.rejected.specs.Wrong
+use Rattle.rejected.specs.Wrong.{joining, unchanged, checking, allMade, blaming, asBlamed, parting, asParted, sweeping, emptying, asRuled, asSummed}
+use Rattle.rejected.specs.Wrong.{segmentFirst, undoesClock, keepsAt22, startsOld, judgesRoomFirst, ownFirst, claimsAll}
+use Rattle.demands.proofs.Parts.{takenBy, arrival-done}
+use Rattle.demands.proofs.Refused.{step-refused}
+use Rattle.rejected.specs.Wrong.{refuses, losesAll, forgets, savesFirst, invents, inventsOctets, neverRefuses, takesPadded, blamesNext, blamesAlways, swallows, handsOutEarly, handsOutMore}
+use Rattle.rejected.specs.Wrong.{losesNothing, releasesNothing, recordsSending, clearsRegistry, movesTimer, movesClock}
+use Rattle.rejected.specs.Wrong.{leavesOut, setsSpare, cutsPast, cutsByClock, writesNonsense}
+use Rattle.rejected.specs.Wrong.{comparesNumbers, comparesFilled, comparesNumbersTo, comparesFilledTo, passesOver, recordsOriginTwice, takesHighest, losesEmpty, joinsOverGap, exchangesCauses, callsItDelivered}
+use Rattle.rejected.specs.Wrong.{dropsRestart, countsSaved, tellsLast, startsAnew, subtractsPlainly}
+use Rattle.rejected.specs.Wrong.{countsRefused, billsRestart, forgetsReleases, keepsRows, givesSecond, takesParameter, missesStrays}
 
 -- THE FRAMES of the errors, with nothing changed, are ours: so each machine differs by its error alone
 either : (b : Bool) {o o′ : Outcome} → (b ≡ true → o′ ≡ o) → (if b then o′ else o) ≡ o
@@ -58,10 +64,12 @@ either false h = refl
 as-ours : (st : State) (c : Call) {o : Outcome} → (accepted (checksOf st c) ≡ true → o ≡ step st c) → (if accepted (checksOf st c) then o else step st c) ≡ step st c
 as-ours st c h = either (accepted (checksOf st c)) h
 
+abbrev joined-as-ours : State → Arrival → Outcome
+joined-as-ours st x = afterArrival (bothWith (clockOf st x) (takenBy st x))
+
 pub joining-ours : (st : State) (c : Call) → joining placeOf lowestFree lineOf unchanged .step st c ≡ step st c
-unfolding step segmentWith
 joining-ours st (Opens x) = as-ours st (Opens x) (λ e. refl)
-joining-ours st (Arrives x) = as-ours st (Arrives x) (λ e. simp e)
+joining-ours st (Arrives x) = as-ours st (Arrives x) (λ e. arrival-done st x (λ (o : Outcome). joined-as-ours st x ≡ o) e refl)
 joining-ours st (Ticks x) = as-ours st (Ticks x) (λ e. refl)
 joining-ours st (Releases x) = as-ours st (Releases x) (λ e. refl)
 joining-ours st (Sends x) = as-ours st (Sends x) (λ e. refl)
@@ -71,11 +79,11 @@ all-made [] = refl
 all-made (c ∷ cs) = rw (all-made cs)
 
 pub checking-ours : (st : State) (c : Call) → checking allMade .step st c ≡ step st c
-unfolding step segmentWith
 checking-ours st (Opens x) = refl
 checking-ours st (Arrives x) =
     rw (all-made (checksOf st (Arrives x)))
-    (fault-by (λ (o : Outcome). o ≡ step st (Arrives x)) (checksOf st (Arrives x)) (λ y. record { answer = refusing y (Arrives x); state = st }) _ (λ e. simp e) (λ e. simp e))
+    (fault-by (λ (o : Outcome). o ≡ step st (Arrives x)) (checksOf st (Arrives x)) (refusedOutcome st (Arrives x)) _
+    (λ e. arrival-done st x (λ (o : Outcome). joined-as-ours st x ≡ o) e refl) (λ e. sym (step-refused st (Arrives x) e)))
 checking-ours st (Ticks x) = refl
 checking-ours st (Releases x) = refl
 checking-ours st (Sends x) = refl
@@ -86,6 +94,13 @@ blaming-ours st (Arrives x) = refl
 blaming-ours st (Ticks x) = refl
 blaming-ours st (Releases x) = refl
 blaming-ours st (Sends x) = refl
+
+pub parting-ours : (st : State) (c : Call) → parting asParted .step st c ≡ step st c
+parting-ours st (Opens x) = refl
+parting-ours st (Arrives x) = refl
+parting-ours st (Ticks x) = refl
+parting-ours st (Releases x) = refl
+parting-ours st (Sends x) = refl
 
 pub sweeping-ours : (st : State) (c : Call) → sweeping isDue .step st c ≡ step st c
 unfolding step clockWith clockChecksWith
@@ -123,12 +138,13 @@ before = stateOf fresh emptySummary (replicate storeLeast 0)
 abbrev openingAt : ℕ → Opening
 openingAt time = record { registry = registry; timer = 100; time = time }
 
--- report areas for one record and for one of every place
-abbrev one : List ℕ
-one = replicate recordLength 0
-
+-- a report area for an arrival, and for the clock and a release
 abbrev all : List ℕ
-all = replicate reportLeast 0
+all = replicate arrivalLeast 0
+
+-- a segment of association 9 arrives at a time
+abbrev comesAt : ℕ → List ℕ → Call
+comesAt time s = toArrive time 9 s all
 
 -- keys of context 3 at association 9
 abbrev keyWith : ℕ → Key
@@ -204,18 +220,18 @@ calling d cs ranges = calling-at d 0 (omega arith) cs ranges
 
 abbrev arrivals : List (List ℕ) → List Call
 arrivals [] = []
-arrivals (s ∷ l) = toArrive 9 s one ∷ arrivals l
+arrivals (s ∷ l) = comesAt 0 s ∷ arrivals l
 
 in-range : (l : List (List ℕ)) → All InRange (arrivals l)
 in-range [] = tt
-in-range (s ∷ l) = (omega arith, in-range l)
+in-range (s ∷ l) = ((omega arith, omega arith), in-range l)
 
 arriving : {d : Told → Seen → Type 0} {m : Machine} → Meets d m → (l : List (List ℕ)) → Along d (told m 0) (runOf m (opened m 0) (arrivals l))
 arriving d l = calling d (arrivals l) (in-range l)
 
 -- what a trace computes with, to be named on an `unfolding` line: the rules of the calls, and what is told of them
 ruling : Unit {0}
-unfolding opening segmentChecks segmentChecksWith segmentSums segmentWith clockChecks clockChecksWith clockWith releaseChecks releaseChecksWith releaseWith sweep sendingChecks sending segmentOctets parameterOctets delivery step
+unfolding opening wholeChecks partChecks bothChecks arrivalChecks segmentSums arrival clockChecks clockChecksWith clockWith releaseChecks releaseChecksWith releaseWith sweep sendingChecks sending segmentOctets parameterOctets delivery step
 ruling = tt
 
 summing : Unit {0}
@@ -302,9 +318,6 @@ other-sendable zero lt = (sender 0 255, record { kind = refl; good = refl })
 other-sendable (suc zero) lt = (sender 0 255, record { kind = refl; good = refl })
 other-sendable (suc (suc k)) lt = let z : ⊥ = omega arith in absurd z
 
-one-long : recordLength ≤ length one
-one-long = omega (arith, length-replicate {A = ℕ} recordLength 0)
-
 -- the receiver
 ready : (x : Shipment) → kindOf (before .table .registry) (x .request .context .0) ≡ x .kind → x .association < 2 ^ 16 → Ready x before
 unfolding computing
@@ -318,30 +331,44 @@ ready x kind carrier =
       carrier = carrier;
     }
 
--- what Demand 2 says of two octets in one segment, and of three in three
-trip2 : {m : Machine} → Demand2 m → RoundTrip m two before one
-unfolding computing
-trip2 d = d .back two (λ k. sender 0 255) two-sendable before (ready two refl (omega arith)) one one-long
+-- segments that come at time 0
+abbrev slot : Slot
+slot = record { time = 0; report = all }
 
-trip3 : {m : Machine} → Demand2 m → RoundTrip m three before one
+coming : (x : Shipment) (st : State) (k : ℕ) → accepted (wholeOf st (arrivalIn x k slot)) ≡ true → SparesTime st (keyIn x) (arrivalIn x k slot) → CanCount st (arrivalOf x k slot) → Comes x st k slot
+coming x st k timely spares counts = record { range = omega arith; timely = timely; spares = spares; counts = counts }
+
+-- what Demand 2 says of two octets in one segment, and of three in three
+trip2 : {m : Machine} → Demand2 m → RoundTrip m two before slot
 unfolding computing
-trip3 d = d .back three (λ k. sender 0 255) three-sendable before (ready three refl (omega arith)) one one-long
+trip2 d = d .back two (λ k. sender 0 255) two-sendable before (ready two refl (omega arith)) slot (coming two before 0 refl tt refl)
+
+trip3 : {m : Machine} → Demand2 m → RoundTrip m three before slot
+unfolding computing
+trip3 d = d .back three (λ k. sender 0 255) three-sendable before (ready three refl (omega arith)) slot (coming three before 0 refl tt refl)
+
+-- the states that a machine leaves after the first and the second of three
+abbrev first : Machine → State
+first m = m .step before (arrivalOf three 0 slot) .state
+
+abbrev second : Machine → State
+second m = m .step (first m) (arrivalOf three 1 slot) .state
 
 -- THE MACHINES
 -- the first of three is not accepted
 pub rejects-refuses : Demand2 refuses → ⊥
 unfolding computing
-rejects-refuses d = let z : _≡_ {A = ℕ} 1 0 = trip3 d .first refl refl refl .accepted in omega arith
+rejects-refuses d = let z : _≡_ {A = ℕ} 1 0 = trip3 d .first refl refl .accepted in omega arith
 
 -- the first of three is not saved
 pub rejects-losesAll : Demand2 losesAll → ⊥
 unfolding computing
-rejects-losesAll d = false≢true (trip3 d .first refl refl refl .saved)
+rejects-losesAll d = false≢true (trip3 d .first refl refl .saved)
 
 -- the second of three makes a record
 pub rejects-forgets : Demand2 forgets → ⊥
 unfolding computing
-rejects-forgets d = let z : _≡_ {A = ℕ} 1 0 = trip3 d .later refl refl refl 1 (omega arith) before stop one one-long refl .0 (omega arith) .records in omega arith
+rejects-forgets d = let z : _≡_ {A = ℕ} 1 0 = trip3 d .later refl refl 1 (omega arith) before stop slot (coming three before 1 refl tt refl) .0 (omega arith) .records in omega arith
 
 -- nothing is held of the first of two
 pub rejects-forgets-3 : Demand3 forgets → ⊥
@@ -352,7 +379,7 @@ rejects-forgets-3 d = let z : _≡_ {A = ℕ} 0 1 = ap length (arriving d (m3 �
 pub rejects-savesFirst : Demand2 savesFirst → ⊥
 unfolding computing
 rejects-savesFirst d =
-    let z : _≡_ {A = ℕ} 0 2 = ap (nth 1) (trip3 d .later refl refl refl 2 (omega arith) _ (mine one one-long refl stop) one one-long refl .1 refl .handed) in
+    let z : _≡_ {A = ℕ} 0 2 = ap (nth 1) (trip3 d .later refl refl 2 (omega arith) (second savesFirst) (mine slot (coming three (first savesFirst) 1 refl tt refl) stop) slot (coming three (second savesFirst) 2 refl tt refl) .1 refl .handed) in
     omega arith
 
 -- with the last of two, the second octet comes back as 0
@@ -368,7 +395,7 @@ rejects-invents d = let z : _≡_ {A = ℕ} 2 1 = arriving d (alone ∷ []) .0 .
 -- an unsegmented parameter counts two segments, in octet 9 of its record
 pub rejects-invents-2 : Demand2 invents → ⊥
 unfolding computing
-rejects-invents-2 d = let z : _≡_ {A = ℕ} 2 1 = ap (nth 8) (trip2 d .alone refl refl .reported) in omega arith
+rejects-invents-2 d = let z : _≡_ {A = ℕ} 2 1 = ap (nth 8) (trip2 d .alone refl .reported) in omega arith
 
 -- an unsegmented parameter with one octet counts two
 pub rejects-inventsOctets : Demand3 inventsOctets → ⊥
@@ -378,27 +405,27 @@ rejects-inventsOctets d = let z : _≡_ {A = ℕ} 2 1 = arriving d (alone ∷ []
 -- an unsegmented parameter with two octets counts three, in octet 11 of its record
 pub rejects-inventsOctets-2 : Demand2 inventsOctets → ⊥
 unfolding computing
-rejects-inventsOctets-2 d = let z : _≡_ {A = ℕ} 3 2 = ap (nth 10) (trip2 d .alone refl refl .reported) in omega arith
+rejects-inventsOctets-2 d = let z : _≡_ {A = ℕ} 3 2 = ap (nth 10) (trip2 d .alone refl .reported) in omega arith
 
 -- M1, the empty parameter, is accepted where the rules refuse it with 5
 pub rejects-neverRefuses : Demand1 neverRefuses → ⊥
 unfolding computing
-rejects-neverRefuses d = let z : _≡_ {A = ℕ} 0 5 = d .every before (toArrive 9 [] one) .number in omega arith
+rejects-neverRefuses d = let z : _≡_ {A = ℕ} 0 5 = d .every before (comesAt 0 []) .number in omega arith
 
 -- M12, the padded context 3, is accepted where the rules refuse it with 23
 pub rejects-takesPadded : Demand1 takesPadded → ⊥
 unfolding computing
-rejects-takesPadded d = let z : _≡_ {A = ℕ} 0 23 = d .every before (toArrive 9 padded one) .number in omega arith
+rejects-takesPadded d = let z : _≡_ {A = ℕ} 0 23 = d .every before (comesAt 0 padded) .number in omega arith
 
 -- octet 2 of M9 has extension 0: position 1, and not 2
 pub rejects-blamesNext : Demand1 blamesNext → ⊥
 unfolding computing
-rejects-blamesNext d = let z : _≡_ {A = ℕ} 2 1 = d .every before (toArrive 9 (0x83 ∷ 0x00 ∷ []) one) .position in omega arith
+rejects-blamesNext d = let z : _≡_ {A = ℕ} 2 1 = d .every before (comesAt 0 (0x83 ∷ 0x00 ∷ [])) .position in omega arith
 
 -- an unsegmented parameter is taken, and no octet of it is at fault
 pub rejects-blamesAlways : Demand1 blamesAlways → ⊥
 unfolding computing
-rejects-blamesAlways d = let z : _≡_ {A = ℕ} 0 65535 = d .every before (toArrive 9 alone one) .position in omega arith
+rejects-blamesAlways d = let z : _≡_ {A = ℕ} 0 65535 = d .every before (comesAt 0 alone) .position in omega arith
 
 -- an unsegmented parameter is neither covered nor held
 pub rejects-swallows : Demand3 swallows → ⊥
@@ -408,7 +435,7 @@ rejects-swallows d = let z : _≡_ {A = ℕ} 0 1 = ap length (arriving d (alone 
 -- an unsegmented parameter has no record
 pub rejects-swallows-2 : Demand2 swallows → ⊥
 unfolding computing
-rejects-swallows-2 d = let z : _≡_ {A = ℕ} 0 1 = trip2 d .alone refl refl .records in omega arith
+rejects-swallows-2 d = let z : _≡_ {A = ℕ} 0 1 = trip2 d .alone refl .records in omega arith
 
 -- the first of two hands over the place's 2,048 octets
 pub rejects-handsOutEarly : Demand3 handsOutEarly → ⊥
@@ -430,7 +457,7 @@ pub rejects-releasesNothing : Release releasesNothing → ⊥
 unfolding computing
 rejects-releasesNothing d =
     false≢true
-    (calling d (toArrive 9 m3 one ∷ toRelease 9 all ∷ []) (omega arith, (omega arith, tt)) .1 .0 .0 (keyWith 5)
+    (calling d (comesAt 0 m3 ∷ toRelease 9 all ∷ []) ((omega arith, omega arith), (omega arith, tt)) .1 .0 .0 (keyWith 5)
     .1 (refl, λ e. let z : _≡_ {A = ℕ} 1 0 = ap length e in omega arith))
 
 -- the first of three is sent, with a record that is of no deed
@@ -504,6 +531,12 @@ unfolding computing
 rejects-passesOver d = let z : _≡_ {A = ℕ} 1 0 = ap length (arriving d (between a07 [] ∷ between a07 a07 ∷ []) .1 .0 .agrees .exact (keyBetween a07 a07)) in omega arith
 
 -- after the first of two to 07 comes the first to 08, and then the last to 07: what comes back begins with what was for 08
+abbrev afterOne : State
+afterOne = passesOver .step before (arrivalOf toOne 0 slot) .state
+
+abbrev afterTwo : State
+afterTwo = passesOver .step afterOne (arrivalOf toTwo 0 slot) .state
+
 pub rejects-passesOver-both : Exchanges passesOver → ⊥
 unfolding computing
 rejects-passesOver-both d =
@@ -511,50 +544,50 @@ rejects-passesOver-both d =
     let differ : OtherDestination (keyIn toOne) (keyIn toTwo)
     = record { association = refl; context = refl; origin = refl; reference = refl; destination = λ e. let z : _≡_ {A = ℕ} 7 8 = ap (λ (a : Address). nth 0 (a .octets)) e in omega arith } in
     let z : _≡_ {A = ℕ} 5 1 = ap (nth 0)
-    (d .both toOne toTwo one-sendable other-sendable differ before (ready toOne refl (omega arith)) (ready toTwo refl (omega arith)) free _ 1 1
-    (ofOne one (omega arith) one-long refl (ofTwo one (omega arith) one-long refl neither)) one one-long .0 refl refl .handed) in
+    (d .both toOne toTwo one-sendable other-sendable differ before (ready toOne refl (omega arith)) (ready toTwo refl (omega arith)) free afterTwo 1 1
+    (ofOne slot (omega arith) (coming toOne before 0 refl tt refl) tt (ofTwo slot (omega arith) (coming toTwo afterOne 0 refl tt refl) tt neither)) slot .0 refl (coming toOne afterTwo 1 refl tt refl) .handed) in
     omega arith
 
 -- the loss of a later segment from 07 to nowhere says that it went to 07
 pub rejects-recordsOriginTwice : Demand3 recordsOriginTwice → ⊥
 unfolding computing
 rejects-recordsOriginTwice d =
-    let z : _≡_ {A = ℕ} 1 0 = ap (ofFirst (λ (x : Ending). x .key .destination .length)) (arriving d ((0x84 ∷ 0x80 ∷ 0x00 ∷ 0x85 ∷ 0x01 ∷ 0x07 ∷ 0x00 ∷ []) ∷ []) .0 .ruled .0 .ends) in
+    let z : _≡_ {A = ℕ} 1 0 = ap (ofFirst (λ (x : Ending). x .key .destination .length)) (arriving d ((0x84 ∷ 0x80 ∷ 0x00 ∷ 0x85 ∷ 0x01 ∷ 0x07 ∷ 0x00 ∷ []) ∷ []) .0 .ruled .1 .0 .ends) in
     omega arith
 
 -- the second of three has no octets, and a record where the rules have none
 pub rejects-losesEmpty : Demand3 losesEmpty → ⊥
 unfolding computing
-rejects-losesEmpty d = let z : _≡_ {A = ℕ} 1 0 = ap length (arriving d (first3 ∷ empty2 ∷ []) .1 .0 .ruled .0 .ends) in omega arith
+rejects-losesEmpty d = let z : _≡_ {A = ℕ} 1 0 = ap length (arriving d (first3 ∷ empty2 ∷ []) .1 .0 .ruled .1 .0 .ends) in omega arith
 
 -- a later segment with nothing open is lost with cause 2
 pub rejects-exchangesCauses : Demand3 exchangesCauses → ⊥
 unfolding computing
-rejects-exchangesCauses d = let z : _≡_ {A = ℕ} 2 1 = ap (ofFirst (λ (x : Ending). x .cause)) (arriving d (m4 ∷ []) .0 .ruled .0 .ends) in omega arith
+rejects-exchangesCauses d = let z : _≡_ {A = ℕ} 2 1 = ap (ofFirst (λ (x : Ending). x .cause)) (arriving d (m4 ∷ []) .0 .ruled .1 .0 .ends) in omega arith
 
 -- the first and the last of three are delivered
 pub rejects-joinsOverGap : Demand3 joinsOverGap → ⊥
 unfolding computing
-rejects-joinsOverGap d = let z : _≡_ {A = ℕ} delivered lost = ap (ofFirst (λ (x : Ending). x .kind)) (arriving d (first3 ∷ m4 ∷ []) .1 .0 .ruled .0 .ends) in omega arith
+rejects-joinsOverGap d = let z : _≡_ {A = ℕ} delivered lost = ap (ofFirst (λ (x : Ending). x .kind)) (arriving d (first3 ∷ m4 ∷ []) .1 .0 .ruled .1 .0 .ends) in omega arith
 
 -- a first segment of no octets is delivered by the clock
 pub rejects-callsItDelivered-clock : Demand3 callsItDelivered → ⊥
 unfolding computing
 rejects-callsItDelivered-clock d =
-    let z : _≡_ {A = ℕ} delivered lost = calling d (toArrive 9 empty1 one ∷ toTick 100 all ∷ []) (omega arith, (omega arith, tt)) .1 .0 .ruled .0 .0 .kind in
+    let z : _≡_ {A = ℕ} delivered lost = calling d (comesAt 0 empty1 ∷ toTick 100 all ∷ []) ((omega arith, omega arith), (omega arith, tt)) .1 .0 .ruled .0 .0 .kind in
     omega arith
 
 -- a first segment of no octets is delivered by a release
 pub rejects-callsItDelivered-release : Demand3 callsItDelivered → ⊥
 unfolding computing
 rejects-callsItDelivered-release d =
-    let z : _≡_ {A = ℕ} delivered lost = calling d (toArrive 9 empty1 one ∷ toRelease 9 all ∷ []) (omega arith, (omega arith, tt)) .1 .0 .ruled .0 .0 .kind in
+    let z : _≡_ {A = ℕ} delivered lost = calling d (comesAt 0 empty1 ∷ toRelease 9 all ∷ []) ((omega arith, omega arith), (omega arith, tt)) .1 .0 .ruled .0 .0 .kind in
     omega arith
 
 -- a first segment of no octets is delivered by one of no octets that breaks its sequence
 pub rejects-callsItDelivered-segment : Demand3 callsItDelivered → ⊥
 unfolding computing
-rejects-callsItDelivered-segment d = let z : _≡_ {A = ℕ} delivered lost = ap (ofFirst (λ (x : Ending). x .kind)) (arriving d (empty1 ∷ empty3 ∷ []) .1 .0 .ruled .0 .ends) in omega arith
+rejects-callsItDelivered-segment d = let z : _≡_ {A = ℕ} delivered lost = ap (ofFirst (λ (x : Ending). x .kind)) (arriving d (empty1 ∷ empty3 ∷ []) .1 .0 .ruled .1 .0 .ends) in omega arith
 
 -- a first segment twice: nothing is held of the second
 pub rejects-dropsRestart : Demand3 dropsRestart → ⊥
@@ -576,8 +609,8 @@ pub rejects-startsAnew : Timer startsAnew → ⊥
 unfolding computing
 rejects-startsAnew d =
     false≢true
-    (calling d (toArrive 9 first3 one ∷ toTick 50 all ∷ toArrive 9 second3 one ∷ toTick 100 all ∷ []) (omega arith, (omega arith, (omega arith, (omega arith, tt))))
-    .1 .1 .1 .0 .0 (keyWith 5) .1 (omega arith))
+    (calling d (comesAt 0 first3 ∷ comesAt 50 second3 ∷ toTick 100 all ∷ []) ((omega arith, omega arith), ((omega arith, omega arith), (omega arith, tt)))
+    .1 .1 .0 .0 (keyWith 5) .1 (omega arith))
 
 -- the first of three at time 0, the second at time 50: it started at time 50
 pub rejects-startsAnew-3 : Demand3 startsAnew → ⊥
@@ -585,8 +618,8 @@ unfolding computing
 rejects-startsAnew-3 d =
     let z : _≡_ {A = ℕ} 50 0 =
     ap (ofFirst (λ (v : View). v .start))
-    (calling d (toArrive 9 first3 one ∷ toTick 50 all ∷ toArrive 9 second3 one ∷ []) (omega arith, (omega arith, (omega arith, tt)))
-    .1 .1 .0 .agrees .exact (keyWith 5)) in
+    (calling d (comesAt 0 first3 ∷ comesAt 50 second3 ∷ []) ((omega arith, omega arith), ((omega arith, omega arith), tt))
+    .1 .0 .agrees .exact (keyWith 5)) in
     omega arith
 
 -- the first of three 6 ticks before the clock's turn: at time 5 its age is 11, and at time 100 it is 106 and not lost
@@ -594,7 +627,7 @@ pub rejects-subtractsPlainly : Timer subtractsPlainly → ⊥
 unfolding computing
 rejects-subtractsPlainly d =
     false≢true
-    (calling-at d 4294967290 (omega arith) (toArrive 9 first3 one ∷ toTick 5 all ∷ toTick 100 all ∷ []) (omega arith, (omega arith, (omega arith, tt)))
+    (calling-at d 4294967290 (omega arith) (comesAt 4294967290 first3 ∷ toTick 5 all ∷ toTick 100 all ∷ []) ((omega arith, omega arith), (omega arith, (omega arith, tt)))
     .1 .1 .0 .0 (keyWith 5) .1 (omega arith))
 
 -- the state and the call of the last are values of their types
@@ -644,8 +677,8 @@ before-typed =
       store = all-replicate (Bits 8) 0 (omega arith) storeLeast;
     }
 
-m3-typed : OfCall (toArrive 9 m3 one)
-m3-typed = (omega arith, (omega arith, (omega arith, (omega arith, (omega arith, (omega arith, tt))))), all-replicate (Bits 8) 0 (omega arith) recordLength)
+m3-typed : OfCall (comesAt 0 m3)
+m3-typed = (omega arith, omega arith, (omega arith, (omega arith, (omega arith, (omega arith, (omega arith, tt))))), all-replicate (Bits 8) 0 (omega arith) arrivalLeast)
 
 -- the place that a segment was saved in
 abbrev savedIn : Decided → ℕ
@@ -659,7 +692,7 @@ savedIn (As (Lost cause p)) = 0
 pub rejects-takesHighest : Exactly takesHighest → ⊥
 unfolding computing
 rejects-takesHighest d =
-    let z : _≡_ {A = ℕ} 15 0 = ap (λ (a : Answer). savedIn (a .decided)) (d .every before (toArrive 9 m3 one) before-typed m3-typed .answer) in
+    let z : _≡_ {A = ℕ} 15 0 = ap (λ (a : Answer). savedIn (a .decided)) (d .every before (comesAt 0 m3) before-typed m3-typed .answer) in
     omega arith
 
 -- a number of the summary: row 0 has its mark at 0, taken at 128 and 192, delivered at 256 and 320, lost at 384 and 448
@@ -677,14 +710,14 @@ rejects-billsRestart d = let z : _≡_ {A = ℕ} 2 1 = ap (nth 384) (arriving d 
 pub rejects-forgetsReleases : Totals forgetsReleases → ⊥
 unfolding computing totalsOf
 rejects-forgetsReleases d =
-    let z : _≡_ {A = ℕ} 0 1 = ap (nth 384) (calling d (toArrive 9 m3 one ∷ toRelease 9 all ∷ []) (omega arith, (omega arith, tt)) .1 .0) in
+    let z : _≡_ {A = ℕ} 0 1 = ap (nth 384) (calling d (comesAt 0 m3 ∷ toRelease 9 all ∷ []) ((omega arith, omega arith), (omega arith, tt)) .1 .0) in
     omega arith
 
 -- an unsegmented parameter, and an opening that leaves its row used
 pub rejects-keepsRows : Totals keepsRows → ⊥
 unfolding computing totalsOf
 rejects-keepsRows d =
-    let z : _≡_ {A = ℕ} 1 0 = ap (nth 0) (calling d (toArrive 9 alone one ∷ Opens (openingAt 0) ∷ []) (omega arith, (omega arith, tt)) .1 .0) in
+    let z : _≡_ {A = ℕ} 1 0 = ap (nth 0) (calling d (comesAt 0 alone ∷ Opens (openingAt 0) ∷ []) ((omega arith, omega arith), (omega arith, tt)) .1 .0) in
     omega arith
 
 -- the second of three is taken in row 1
@@ -701,3 +734,54 @@ rejects-takesParameter d = let z : _≡_ {A = ℕ} 4 1 = ap (nth 192) (arriving 
 pub rejects-missesStrays : Totals missesStrays → ⊥
 unfolding computing totalsOf
 rejects-missesStrays d = let z : _≡_ {A = ℕ} 0 1 = ap (nth 128) (arriving d (m4 ∷ []) .0) in omega arith
+
+-- THE TWO PARTS OF AN ARRIVAL. T is 100: what begins at 0 is lost at 100
+
+-- the first of two at 0 and the last at 100, which is delivered: what is T old by then is not lost
+pub rejects-segmentFirst : Timer segmentFirst → ⊥
+unfolding computing
+rejects-segmentFirst d = false≢true (calling d (comesAt 0 m3 ∷ comesAt 100 m4 ∷ []) ((omega arith, omega arith), ((omega arith, omega arith), tt)) .1 .0 .0 (keyWith 5) .1 (omega arith))
+
+-- the first of two at 0, and the empty parameter at 100: refused, and the loss is not told
+pub rejects-undoesClock : Demand1 undoesClock → ⊥
+unfolding computing
+rejects-undoesClock d =
+    let z : _≡_ {A = ℕ} 0 1 = ap (λ (a : Answer). a .records) (d .every (undoesClock .step before (comesAt 0 m3) .state) (comesAt 100 []) .untouched refl .answer) in
+    omega arith
+
+-- 2^63 segments are taken, and one more comes at 50: refused by 22, and the clock is at 50
+abbrev counted : ℕ → List ℕ
+counted taken = set (set (set emptySummary 0 1) 64 9) 128 taken
+
+pub rejects-keepsAt22 : Demand1 keepsAt22 → ⊥
+unfolding computing
+rejects-keepsAt22 d =
+    let z : _≡_ {A = ℕ} 50 0 = ap (λ (st : State). st .table .clock) (d .every (stateOf fresh (counted totalMost) (replicate storeLeast 0)) (comesAt 50 alone) .untouched refl .state) in
+    omega arith
+
+-- a table with 16 open places, all of time 0: the first of another sequence comes at 100, and is refused by 10
+abbrev full : ℕ → List Place
+full zero = []
+full (suc n) = openPlace (keyWith n) (record { 0 = 1 }) 0 1 1 0 ∷ full n
+
+pub rejects-judgesRoomFirst : Demand1 judgesRoomFirst → ⊥
+unfolding computing
+rejects-judgesRoomFirst d =
+    let t : Table = record { places = full placeCount; registry = fresh .registry; timer = 100; clock = 0 } in
+    let z : _≡_ {A = ℕ} 10 0 = d .every (stateOf t (counted 16) (replicate storeLeast 0)) (comesAt 100 (0x83 ∷ 0x80 ∷ 0x42 ∷ 0x94 ∷ 0xAA ∷ [])) .number in
+    omega arith
+
+-- the first of three comes at 50: it started at 0
+pub rejects-startsOld : Demand3 startsOld → ⊥
+unfolding computing
+rejects-startsOld d = let z : _≡_ {A = ℕ} 0 50 = ap (ofFirst (λ (v : View). v .start)) (calling d (comesAt 50 first3 ∷ []) ((omega arith, omega arith), tt) .0 .agrees .exact (keyWith 5)) in omega arith
+
+-- the first of two at 0 and the last at 100: the loss with cause 1 is told as the clock's
+pub rejects-ownFirst : Demand3 ownFirst → ⊥
+unfolding computing
+rejects-ownFirst d = let z : _≡_ {A = ℕ} 1 6 = calling d (comesAt 0 m3 ∷ comesAt 100 m4 ∷ []) ((omega arith, omega arith), ((omega arith, omega arith), tt)) .1 .0 .ruled .0 .0 .cause in omega arith
+
+-- .. both losses are told as the segment's
+pub rejects-claimsAll : Demand3 claimsAll → ⊥
+unfolding computing
+rejects-claimsAll d = let z : _≡_ {A = ℕ} 2 1 = ap length (calling d (comesAt 0 m3 ∷ comesAt 100 m4 ∷ []) ((omega arith, omega arith), ((omega arith, omega arith), tt)) .1 .0 .ruled .1 .0 .ends) in omega arith

@@ -1,47 +1,89 @@
-//! Cases of segments.
+//! Cases of arrivals.
 
-use super::{billing, choose, Case, State, World};
+use super::{billing, choose, steps, Case, State, World, CLOCK_22};
+use crate::arrivals::{self, Clocked};
 use crate::input::Input;
+use crate::pair::LONGEST_REPORT;
 use crate::random::Random;
 use crate::scene::{self, Scene};
-use crate::tables;
 use crate::wire::{Field, Wire};
+use crate::{summaries, tables};
 use model::*;
 
+/// The order of an arrival's refusals. Those of reading come by the octets.
+pub const ORDER: [u8; 15] = [1, 2, 3, 13, CLOCK_22, 4, 5, 6, 23, 7, 8, 9, 10, 21, 22];
+
+/// Pairs that cannot hold at once: a parameter over 255 cannot end inside its fields, what the clock
+/// ends leaves room, and who has no row has no total either.
+pub const NEVER: [(u8, u8); 3] = [(4, 5), (CLOCK_22, 10), (21, 22)];
+
 impl World {
-    pub(super) fn segment(&mut self) -> Case {
-        let mut held = choose(&mut self.random, &[1, 2, 3, 4, 5, 6, 23, 7, 8, 9, 10, 21, 22]);
-        if held.contains(&4) {
-            // A parameter over 255 cannot end inside its fields.
-            held.retain(|number| *number != 5);
+    pub(super) fn arrival(&mut self) -> Case {
+        let mut held = choose(&mut self.random, &ORDER);
+        for (first, second) in NEVER {
+            if held.contains(&first) {
+                held.retain(|number| *number != second);
+            }
         }
-        if held.contains(&21) {
-            // Who has no row has no total either.
-            held.retain(|number| *number != 22);
-        }
-        let mut state = self.state(&held);
+        let full = held.is_empty() && self.random.one_in(16);
+        let mut state = if full { self.full() } else { self.state(&held) };
         let (random, table) = (&mut self.random, state.table);
-        let Scene { mut association, mut wire } = fitting(random, &table, &mut held);
-        let edge = billing::segment(random, &mut state, &mut held, &mut association, &wire);
+        let step = match full {
+            true => steps::due(random, &table),
+            false => steps::arrival(random, &table, &held),
+        };
+        let time = table.clock.wrapping_add(step);
+        let concerned = concerned(random, &table, time);
+        let Scene { mut association, mut wire } = fitting(random, &concerned, &mut held);
+        let limits = billing::arrival(random, &mut state, &mut held, time, &mut association, &wire);
         damage_wire(random, &table, &mut wire, &held);
-        wire.fit();
-        let mut parameter = wire.octets();
-        if held.contains(&5) {
-            parameter.truncate(end_inside(random, &wire));
-        }
-        if held.contains(&4) {
-            let length = random.pick(&[256, 256, 257, 300]);
-            parameter.resize(length, random.octet());
-        }
-        if held.is_empty() && !edge && random.one_in(10) {
-            noise(random, &mut parameter);
-        }
+        let plain = held.is_empty() && !limits.edge;
+        let parameter = parameter(random, &mut wire, &held, plain);
         let (store, report) = rooms(random, &held);
         let State { summary, rule, .. } = state;
         let summary = Box::new(summary);
-        let input = Input::Segment { table, summary, store, report, association, parameter };
-        Case { input, held, rule, edge, together: false }
+        let input = Input::Arrival { table, summary, store, report, time, association, parameter };
+        Case { input, held, rule, edge: limits.edge, together: limits.together }
     }
+
+    /// A full table, and a summary that is sound beside it.
+    fn full(&mut self) -> State {
+        let random = &mut self.random;
+        let count = random.within(1..=8);
+        let table = tables::sound_with(random, count, PLACES);
+        State { table, summary: summaries::sound(random, &table), rule: None }
+    }
+}
+
+/// The sequences that a segment is to concern: those that its arrival's clock leaves open, and now
+/// and then those that it ends.
+fn concerned(random: &mut Random, table: &Table, time: u32) -> Table {
+    let Some(Clocked { table: left, ended }) = arrivals::clocked(table, time) else {
+        return *table;
+    };
+    if ended.is_empty() || !random.one_in(3) {
+        return left;
+    }
+    let mut due = Table { places: Default::default(), ..left };
+    due.places.iter_mut().zip(ended).for_each(|(place, ended)| *place = ended);
+    due
+}
+
+/// The octets; where nothing is expected of them, now and then any.
+fn parameter(random: &mut Random, wire: &mut Wire, held: &[u8], plain: bool) -> Vec<u8> {
+    wire.fit();
+    let mut parameter = wire.octets();
+    if held.contains(&5) {
+        parameter.truncate(end_inside(random, wire));
+    }
+    if held.contains(&4) {
+        let length = random.pick(&[256, 256, 257, 300]);
+        parameter.resize(length, random.octet());
+    }
+    if plain && random.one_in(10) {
+        noise(random, &mut parameter);
+    }
+    parameter
 }
 
 /// Lengths of the store and of the report.
@@ -50,9 +92,10 @@ fn rooms(random: &mut Random, held: &[u8]) -> (usize, usize) {
         true => random.pick(&[32_767, 32_767, 2_048, 0]),
         false => random.pick(&[32_768, 32_768, 32_769, 36_864]),
     };
+    let any = random.below(ARRIVAL);
     let report = match held.contains(&3) {
-        true => random.pick(&[RECORD - 1, RECORD - 1, OLD_RECORD, 1, 0]),
-        false => random.pick(&[RECORD, RECORD, RECORD + 1, SWEEP]),
+        true => random.pick(&[ARRIVAL - 1, ARRIVAL - 1, SWEEP, RECORD, any, 0]),
+        false => random.pick(&[ARRIVAL, ARRIVAL, ARRIVAL + 1, LONGEST_REPORT]),
     };
     (store, report)
 }

@@ -1,0 +1,1 @@
+// The wrong machines, and which demand each breaks. No code.
