@@ -1,5 +1,7 @@
 // What is demanded of the calls, as contracts. Each function here is one call, of this project's own or of C's, with the demands' predicates as what it ensures: they hold at any
 // state, and for any history that matches it.
+#![tactic(auto)]
+
 ghost use Rattle.rules.specs.Promises.{OfDelivery};
 ghost use Rattle.demanded.specs.Demanded.{DemandedOpening, DemandedArrival, DemandedClock, DemandedRelease, DemandedSending, DemandedC, OfBoth};
 
@@ -8,13 +10,13 @@ use host_numbers::CPart;
 use rules::{Decision, Opened, Received, Request, Sent, Swept, Table};
 
 // An arrival's answer for C, and the part that the host takes with it.
-#[derive(Drop)]
+#[derive(Clone, Copy)]
 pub struct Handed {
     pub received: CReceived,
     pub part: CPart,
 }
 
-#[derive(Drop)]
+#[derive(Clone, Copy)]
 pub struct Both {
     pub opened: Opened,
     pub swept: Swept,

@@ -1,1 +1,2 @@
 // The demands as theorems over the rules. No code.
+#![tactic(auto)]

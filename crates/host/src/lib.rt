@@ -1,5 +1,7 @@
 // The public calls for C. An enum and a returned part do not cross: they cross as numbers, see host_numbers.
 // Their names have the number of the interface (include/egrynnol.h): a host of another one does not link.
+#![tactic(auto)]
+
 ghost use Rattle.rules.specs.Promises.{OfOpening, OfClock, OfRelease, OfSending};
 ghost use Rattle.host.specs.Promises.{HostArrival, HostDelivery};
 
@@ -7,7 +9,7 @@ use host_numbers::{CDecision, CPart};
 use rules::{Opened, Request, Sent, Swept, Table};
 
 #[repr(C)]
-#[derive(Drop)]
+#[derive(Clone, Copy)]
 pub struct CReceived {
     pub table: Table,
     pub decision: CDecision,

@@ -1,4 +1,6 @@
 // What crosses to C as numbers, by the definitions of specs/Crossing.antt: a decision, and a returned part.
+#![tactic(auto)]
+
 ghost use Rattle.std.specs.Prelude.{◌≡◌};
 ghost use Rattle.rules.specs.Places.{number_of, found_at};
 ghost use Rattle.host_numbers.specs.Crossing.{c_decision_of, decision_of, located, Within};
@@ -7,7 +9,7 @@ use rules::{Decision, Found, Part};
 
 // A decision as numbers. kind: 0 refused, 1 saved, 2 delivered of the parameter, 3 delivered of the store, 4 lost. A place of 16 is none.
 #[repr(C)]
-#[derive(Drop)]
+#[derive(Clone, Copy)]
 pub struct CDecision {
     pub place: usize,
     pub start: usize,
@@ -18,7 +20,7 @@ pub struct CDecision {
 
 // A delivery: so many octets from start on, of the parameter (source 0) or of the store (source 1).
 #[repr(C)]
-#[derive(Drop)]
+#[derive(Clone, Copy)]
 pub struct CPart {
     pub start: usize,
     pub length: usize,

@@ -1,4 +1,6 @@
 // The course of a loopback: segments one after the other, each cut by the sender and handed to the receiver.
+#![tactic(auto)]
+
 ghost use Rattle.std.specs.Prelude.{◌≡◌, [], take, ◌-◌, ◌≤◌};
 ghost use Rattle.rules.specs.Arrival.{arrival};
 ghost use Rattle.rules.specs.Calls.{state_of, lending};
@@ -9,7 +11,7 @@ use rules::{Decision, Request, Table};
 
 // number is 0, or that of the first condition that fails. The last segment is the first length octets of the area; with it, the decision and the store, the receiver's delivery
 // is the data.
-#[derive(Drop)]
+#[derive(Clone, Copy)]
 pub struct Looped {
     pub table: Table,
     pub decision: Decision,
@@ -18,7 +20,7 @@ pub struct Looped {
 }
 
 // What stays the same from segment to segment.
-#[derive(Drop)]
+#[derive(Clone, Copy)]
 pub struct Course {
     pub table: Table,
     pub request: Request,

@@ -1,4 +1,6 @@
 // The loopback: data is cut by the sender, each segment is handed to the receiver, and what comes back is the data.
+#![tactic(auto)]
+
 ghost use Rattle.std.specs.Prelude.{◌≡◌};
 ghost use Rattle.rules.specs.Places.{is_at, lowest_free};
 ghost use Rattle.rules.specs.Refusals.{first};

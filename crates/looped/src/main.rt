@@ -1,4 +1,6 @@
 // Data from standard input, up to 2,048 octets, cut into segments, received and delivered to standard output: the same octets.
+#![tactic(auto)]
+
 use libc::{STDIN_FILENO, STDOUT_FILENO};
 use rules::{Context, Reference, Request, Table};
 

@@ -1,4 +1,6 @@
 // Octets in lent areas: copying into a part of one, and numbers, most significant octet first.
+#![tactic(auto)]
+
 ghost use Rattle.std.specs.Prelude.{◌≡◌, [], ◌∷◌, min, take, drop};
 ghost use Rattle.octets.specs.Splice.{splice};
 ghost use Rattle.octets.specs.Number.{number, big_endian};

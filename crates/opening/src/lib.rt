@@ -1,4 +1,6 @@
 // Opening a table.
+#![tactic(auto)]
+
 ghost use Rattle.std.specs.Prelude.{◌≡◌, ◌∷◌, ◌+◌, ◌≤◌, length, take, drop};
 ghost use Rattle.rules.specs.General.{every};
 ghost use Rattle.rules.specs.Registry.{is_entry, entries_of};

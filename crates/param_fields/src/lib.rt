@@ -1,4 +1,6 @@
 // The fields of a parameter, each by itself.
+#![tactic(auto)]
+
 ghost use Rattle.std.specs.Prelude.{◌≡◌, ◌≤◌, length};
 ghost use Rattle.rules.specs.Numbers.{parameter_most};
 ghost use Rattle.param_fields.specs.Fields.{last_field, known_field, context_field, sequence_field, address_field};
@@ -6,32 +8,32 @@ ghost use Rattle.param_fields.specs.Fields.{last_field, known_field, context_fie
 use rules::{Context, Entry, Fault, Reference, Remaining, Span};
 
 // An octet that has to be the last of its field, and the position past it; or its refusal. So for the others.
-#[derive(Drop)]
+#[derive(Clone, Copy)]
 pub enum LastField {
     LastIs(u8, usize),
     NotLast(Fault),
 }
 
-#[derive(Drop)]
+#[derive(Clone, Copy)]
 pub enum ContextField {
     ContextIs(Context, u8, usize),
     NoContext(Fault),
 }
 
-#[derive(Drop)]
+#[derive(Clone, Copy)]
 pub struct Sequence {
     pub new: bool,
     pub remaining: Remaining,
     pub reference: Reference,
 }
 
-#[derive(Drop)]
+#[derive(Clone, Copy)]
 pub enum SequenceField {
     SequenceIs(Sequence, usize),
     NoSequence(Fault),
 }
 
-#[derive(Drop)]
+#[derive(Clone, Copy)]
 pub enum AddressField {
     AddressIs(Span, usize),
     NoAddress(Fault),

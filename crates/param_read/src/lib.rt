@@ -1,4 +1,6 @@
 // One parameter read, from left to right.
+#![tactic(auto)]
+
 ghost use Rattle.std.specs.Prelude.{◌≡◌, ◌≤◌, length, drop};
 ghost use Rattle.rules.specs.Numbers.{parameter_most};
 ghost use Rattle.param_read.specs.Reading.{addresses_field, heading_from, after_addresses, reading};
@@ -6,21 +8,21 @@ ghost use Rattle.param_read.specs.Reading.{addresses_field, heading_from, after_
 use param_fields::{AddressField, ContextField, LastField, Sequence, SequenceField};
 use rules::{Context, Entry, Fault, Fields, Heading, Span};
 
-#[derive(Drop)]
+#[derive(Clone, Copy)]
 pub struct Addresses {
     pub origin: Span,
     pub destination: Span,
     pub information: usize,
 }
 
-#[derive(Drop)]
+#[derive(Clone, Copy)]
 pub enum AddressesField {
     AddressesAre(Addresses),
     NoAddresses(Fault),
 }
 
 // A whole parameter's fields, or its refusal: the number, and the octet at fault.
-#[derive(Drop)]
+#[derive(Clone, Copy)]
 pub enum Reading {
     Read(Fields),
     Refused(Fault),

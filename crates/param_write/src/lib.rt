@@ -1,4 +1,6 @@
 // Writing one parameter.
+#![tactic(auto)]
+
 ghost use Rattle.std.specs.Prelude.{◌≡◌, ◌+◌, ◌≤◌, ◌<◌, length};
 ghost use Rattle.octets.specs.Splice.{splice, Wrote};
 ghost use Rattle.rules.specs.General.{if◌then◌else◌};

@@ -1,4 +1,6 @@
 // An arrival: the clock's work first, and then the segment's. All is judged before anything is written: what the clock's work would leave stands aside until the segment is judged with it.
+#![tactic(auto)]
+
 ghost use Rattle.std.specs.Prelude.{◌+◌, ◌≤◌, ◌≡◌, false, []};
 ghost use Rattle.rules.specs.Refusals.{first, unplaced};
 ghost use Rattle.rules.specs.Places.{first_from, is_at};

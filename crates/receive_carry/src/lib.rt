@@ -1,4 +1,6 @@
 // The receiving lines judged: what each does with a segment. Nothing is written here.
+#![tactic(auto)]
+
 ghost use Rattle.std.specs.Prelude.{◌≡◌, List, ℕ, ◌+◌, ◌≤◌, length};
 ghost use Rattle.rules.specs.General.{if◌then◌else◌};
 ghost use Rattle.rules.specs.Numbers.{parameter_most, data_most, store_least};
@@ -13,7 +15,7 @@ use receive_perform::Verdict;
 use rules::{Decision, Fault, Fields, Found, Key, Line, Part, Place, Table};
 
 // A segment as it is judged: its sequence's key, its fields, the place that it is about and what that holds, whether the key is open there, and the time.
-#[derive(Drop)]
+#[derive(Clone, Copy)]
 pub struct Judged {
     pub key: Key,
     pub fields: Fields,

@@ -1,4 +1,6 @@
 // The clock and the release. Each call judges first, reading only, and writes once everything is judged.
+#![tactic(auto)]
+
 ghost use Rattle.std.specs.Prelude.{◌≡◌, [], ◌∷◌, true, not, ltb, length};
 ghost use Rattle.rules.specs.Refusals.{◌when◌, first};
 ghost use Rattle.rules.specs.Sweep.{unswept, report_least};

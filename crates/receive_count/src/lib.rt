@@ -1,4 +1,6 @@
 // What a segment adds to the summary: judged by the verdict on it, reading only; then written.
+#![tactic(auto)]
+
 ghost use Rattle.std.specs.Prelude.{◌≡◌, true, ◌<◌, length};
 ghost use Rattle.rules.specs.Summary.{column_of};
 ghost use Rattle.rules.specs.declared.Key.{Key};
@@ -8,7 +10,7 @@ use receive_perform::Verdict;
 use rules::Found;
 
 // The row in which a segment is counted, and the refusal of one that cannot be: 21 or 22; 0 is none.
-#[derive(Drop)]
+#[derive(Clone, Copy)]
 pub struct Count {
     pub row: usize,
     pub refusal: u8,

@@ -1,4 +1,6 @@
 // The octets that a segment delivered.
+#![tactic(auto)]
+
 ghost use Rattle.std.specs.Prelude.{◌≡◌};
 ghost use Rattle.rules.specs.Delivery.{part_of, part_of_place};
 ghost use Rattle.rules.specs.Promises.{OfDelivery};

@@ -1,4 +1,6 @@
 // The receiving lines: which of them applies to a segment.
+#![tactic(auto)]
+
 ghost use Rattle.std.specs.Prelude.{◌≡◌, ◌≤◌};
 ghost use Rattle.rules.specs.Numbers.{parameter_most};
 ghost use Rattle.rules.specs.Receiving.{line_of, is_start};

@@ -1,4 +1,6 @@
 // A segment's verdict, and what performing it writes. Judging makes the verdict, and writes nothing.
+#![tactic(auto)]
+
 ghost use Rattle.std.specs.Prelude.{◌≡◌, ◌+◌, ◌≤◌, ◌<◌, length};
 ghost use Rattle.rules.specs.Numbers.{stretch_length, store_least, place_count};
 ghost use Rattle.rules.specs.Receiving.{save_at};
@@ -9,7 +11,7 @@ use rules::{Decision, Fault, Key, Place, Record};
 // What becomes of a segment: what its place holds afterwards, the answer but for the table, and what is to be written.
 // Where it saves, the parameter's octets from information on go to the place's stretch of the store, from its index from on.
 // Where records is 1, there is a record: of the segment's key, and it says octets, kind, instruction, cause and segments.
-#[derive(Drop)]
+#[derive(Clone, Copy)]
 pub struct Verdict {
     pub put: Place,
     pub decision: Decision,

@@ -1,4 +1,6 @@
 // Writing a record to a report area.
+#![tactic(auto)]
+
 ghost use Rattle.std.specs.Prelude.{◌≡◌, ◌≤◌, length, take};
 ghost use Rattle.octets.specs.Splice.{splice};
 ghost use Rattle.rules.specs.Records.{record_length, Filled, recorded, record_octets};

@@ -1,4 +1,6 @@
 // A parameter read, and the place that it is about.
+#![tactic(auto)]
+
 ghost use Rattle.std.specs.Prelude.{◌≡◌, false, ◌≤◌, ◌<◌};
 ghost use Rattle.rules.specs.Numbers.{address_most, place_count};
 ghost use Rattle.rules.specs.Places.{place_of, lowest_free};
@@ -12,7 +14,7 @@ use rules::{Address, Fields, Key, Place, Span, Table};
 use table::Search;
 
 // A parameter's reading, its key, and the place that it is about.
-#[derive(Drop)]
+#[derive(Clone, Copy)]
 pub struct Sought {
     pub reading: Reading,
     pub key: Key,

@@ -1,4 +1,6 @@
 // Segments joined: the segment's part of an arrival.
+#![tactic(auto)]
+
 ghost use Rattle.std.specs.Prelude.{◌≡◌, true, List, ℕ, ◌≤◌, ◌<◌, length, drop, get_or};
 ghost use Rattle.rules.specs.Numbers.{parameter_most, store_least, place_count};
 ghost use Rattle.rules.specs.Places.{no_place};

@@ -1,4 +1,6 @@
 // One sweep of a table's places: what is due of them, as the clock and a release lose it, and its records.
+#![tactic(auto)]
+
 ghost use Rattle.std.specs.Prelude.{◌≡◌, [], ◌∷◌, ◌+◌, ◌*◌, ◌≤◌, length};
 ghost use Rattle.octets.specs.Splice.{Wrote};
 ghost use Rattle.rules.specs.Numbers.{place_count};
@@ -10,7 +12,7 @@ ghost use Rattle.receive_sweep.specs.Sweeping.{test_of, cause_of, losses, swept_
 use rules::{Place, Record, Swept, Table};
 
 // Which sequences a sweep loses: those too old at a time, or those of an association.
-#[derive(Drop)]
+#[derive(Clone, Copy)]
 pub enum Test {
     Aged { time: u32, timer: u32 },
     Of(u16),

@@ -1,4 +1,5 @@
 // Receiving: the calls of the paper's section, under one roof.
+#![tactic(auto)]
 
 // A segment arrives at a time: the clock's work, and then the segment's.
 pub use receive_arrival::arrival;

@@ -1,4 +1,6 @@
 // The records program: a trace on standard input; on standard output a line for each event, with its number and its decision, and under it its records in full.
+#![tactic(auto)]
+
 use trace::Watcher;
 
 // Whether there was an argument. A trace that is named and not read must not pass for an empty one.

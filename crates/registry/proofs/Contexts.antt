@@ -13,7 +13,7 @@ use Rattle.registry.specs.Contexts.{has_other, contexts_apart}
 -- an entry with context 0 is apart from all
 pub nought-apart : (d : Entry) (es : List Entry) → d.context.0 ≡ 0 → every (contexts_apart d) es ≡ true
 nought-apart d [] e = refl
-nought-apart d (x ∷ es) e = rw e (rw e at (nought-apart d es e))
+nought-apart d (x ∷ es) e = rw e (nought-apart d es e)
 
 -- any other is told from the rest by its context
 pub told-by : (d : Entry) (es : List Entry) → (d.context.0 ≡ 0 → ⊥) → every (contexts_apart d) es ≡ every (has_other d.context.0) es

@@ -1,4 +1,6 @@
 // The registry: which contexts are known, and of which kind.
+#![tactic(auto)]
+
 ghost use Rattle.std.specs.Prelude.{◌≡◌, ◌||◌, eqb, drop};
 ghost use Rattle.rules.specs.General.{every, every_two};
 ghost use Rattle.registry.specs.Contexts.{has_other, contexts_apart};

@@ -1,1 +1,2 @@
 // The wrong machines, and which demand each breaks. No code.
+#![tactic(auto)]

@@ -1,4 +1,6 @@
 // The replay program: a trace on standard input, a line for each event on standard output.
+#![tactic(auto)]
+
 use trace::Watcher;
 
 // Whether there was an argument. A trace that is named and not read must not pass for an empty one.

@@ -1,4 +1,5 @@
 // The types of document 01. No code: what the calls do with them is in specs/; specs/Lib.antt says which section of the paper is where.
+#![tactic(auto)]
 
 // The paper's numbers, each here alone: places, the octets of a place's stretch of the store, of the store, of a record, of a report for every place and of one for an arrival; the most
 // octets of data, of a parameter and of an address.
@@ -34,20 +35,20 @@ pub const TOTAL: u64 = 9223372036854775808;
 
 // Segments remaining, local reference and context are separate numbers, and none stands for another.
 #[repr(C)]
-#[derive(Drop)]
+#[derive(Clone, Copy)]
 pub struct Remaining(pub u8);
 
 #[repr(C)]
-#[derive(Drop)]
+#[derive(Clone, Copy)]
 pub struct Reference(pub u8);
 
 #[repr(C)]
-#[derive(Drop)]
+#[derive(Clone, Copy)]
 pub struct Context(pub u16);
 
 // An address: its octets, zero filled, and its length. Both tell addresses apart.
 #[repr(C)]
-#[derive(Drop)]
+#[derive(Clone, Copy)]
 pub struct Address {
     pub octets: [u8; ADDRESS],
     pub length: u8,
@@ -55,7 +56,7 @@ pub struct Address {
 
 // What names a sequence.
 #[repr(C)]
-#[derive(Drop)]
+#[derive(Clone, Copy)]
 pub struct Key {
     pub association: u16,
     pub context: Context,
@@ -66,7 +67,7 @@ pub struct Key {
 
 // One sequence. mark is 1 where it is open; a free place is all zero. start is the time of the first segment.
 #[repr(C)]
-#[derive(Drop)]
+#[derive(Clone, Copy)]
 pub struct Place {
     pub key: Key,
     pub octets: u16,
@@ -79,7 +80,7 @@ pub struct Place {
 
 // A registered context and its kind, 1 (of 1998) or 2 (of 2000); an unused entry is all zero.
 #[repr(C)]
-#[derive(Drop)]
+#[derive(Clone, Copy)]
 pub struct Entry {
     pub context: Context,
     pub kind: u8,
@@ -87,7 +88,7 @@ pub struct Entry {
 
 // All that is kept between calls, beside the lent store. Any bits are a value of it: no bool, no enum.
 #[repr(C)]
-#[derive(Drop)]
+#[derive(Clone, Copy)]
 pub struct Table {
     pub places: [Place; PLACES],
     pub registry: [Entry; 8],
@@ -96,7 +97,7 @@ pub struct Table {
 }
 
 // What is made of a delivery or a loss. Reference 255 is an unsegmented parameter.
-#[derive(Drop)]
+#[derive(Clone, Copy)]
 pub struct Record {
     pub key: Key,
     pub octets: u16,
@@ -109,14 +110,14 @@ pub struct Record {
 // A refusal: its number, 0 for none, and the position of the octet at fault, or NOWHERE.
 pub const NOWHERE: u16 = 65535;
 
-#[derive(Drop)]
+#[derive(Clone, Copy)]
 pub struct Fault {
     pub number: u8,
     pub position: u16,
 }
 
 // What a parameter's octets 1 to 3a say, with the kind of its context. It is unsegmented where it is new and none remains.
-#[derive(Drop)]
+#[derive(Clone, Copy)]
 pub struct Heading {
     pub context: Context,
     pub kind: u8,
@@ -127,14 +128,14 @@ pub struct Heading {
 }
 
 // An address where it stands in a parameter: the position of its first octet, and its length.
-#[derive(Drop)]
+#[derive(Clone, Copy)]
 pub struct Span {
     pub at: usize,
     pub length: u8,
 }
 
 // The fields of a parameter. The addresses and the information stay where they are in it.
-#[derive(Drop)]
+#[derive(Clone, Copy)]
 pub struct Fields {
     pub heading: Heading,
     pub origin: Span,
@@ -143,21 +144,21 @@ pub struct Fields {
 }
 
 // Which place, if any.
-#[derive(Drop)]
+#[derive(Clone, Copy)]
 pub enum Found {
     At(usize),
     Nothing,
 }
 
 // Where delivered octets are: from start on in the parameter, or from the start of a place's stretch of the store.
-#[derive(Drop)]
+#[derive(Clone, Copy)]
 pub enum Part {
     OfParameter { start: usize, length: usize },
     OfStore { place: usize, length: usize },
 }
 
 // The first line that applies to a segment.
-#[derive(Drop)]
+#[derive(Clone, Copy)]
 pub enum Line {
     Unsegmented,
     Broken(u8),
@@ -168,7 +169,7 @@ pub enum Line {
 }
 
 // What became of a segment.
-#[derive(Drop)]
+#[derive(Clone, Copy)]
 pub enum Decision {
     Refused,
     Saved(usize),
@@ -177,7 +178,7 @@ pub enum Decision {
 }
 
 // The answers of the calls. A refusal of 0 is none; an arrival's has the position of the octet at fault too, or NOWHERE, and how many of the records are the clock's: they stand first.
-#[derive(Drop)]
+#[derive(Clone, Copy)]
 pub struct Received {
     pub table: Table,
     pub decision: Decision,
@@ -188,7 +189,7 @@ pub struct Received {
 }
 
 #[repr(C)]
-#[derive(Drop)]
+#[derive(Clone, Copy)]
 pub struct Swept {
     pub table: Table,
     pub refusal: u8,
@@ -196,14 +197,14 @@ pub struct Swept {
 }
 
 #[repr(C)]
-#[derive(Drop)]
+#[derive(Clone, Copy)]
 pub struct Opened {
     pub table: Table,
     pub refusal: u8,
 }
 
 #[repr(C)]
-#[derive(Drop)]
+#[derive(Clone, Copy)]
 pub struct Sent {
     pub refusal: u8,
     pub count: u8,
@@ -212,7 +213,7 @@ pub struct Sent {
 
 // What sending is asked for, beside addresses and data.
 #[repr(C)]
-#[derive(Drop)]
+#[derive(Clone, Copy)]
 pub struct Request {
     pub context: Context,
     pub instruction: u8,

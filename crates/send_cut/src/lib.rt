@@ -1,4 +1,6 @@
 // Where data is cut into segments: the octets of a header, and the piece of the data that each segment carries.
+#![tactic(auto)]
+
 ghost use Rattle.std.specs.Prelude.{◌≡◌, ◌≤◌, ◌<◌, ltb};
 ghost use Rattle.rules.specs.General.{if◌then◌else◌};
 ghost use Rattle.send_cut.specs.Plan.{header_for, plan_of, segments_plan, piece_from, piece_size, CutPossible};
@@ -6,7 +8,7 @@ ghost use Rattle.send_cut.specs.Plan.{header_for, plan_of, segments_plan, piece_
 use rules::{Context, Request};
 
 // The piece of the data that a segment carries, and how many segments there are.
-#[derive(Drop)]
+#[derive(Clone, Copy)]
 pub struct Piece {
     pub count: usize,
     pub segmented: bool,
@@ -14,7 +16,7 @@ pub struct Piece {
     pub size: usize,
 }
 
-#[derive(Drop)]
+#[derive(Clone, Copy)]
 pub enum Plan {
     Cut(Piece),
     NoCut(u8),

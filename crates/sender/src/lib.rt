@@ -1,4 +1,6 @@
 // Sending: data cut into segments, one segment a call.
+#![tactic(auto)]
+
 ghost use Rattle.std.specs.Prelude.{◌≡◌, ◌≤◌};
 ghost use Rattle.rules.specs.General.{if◌then◌else◌};
 ghost use Rattle.rules.specs.Refusals.{first};

@@ -1,4 +1,6 @@
 // Whether a table is sound: any bits may be handed over.
+#![tactic(auto)]
+
 ghost use Rattle.std.specs.Prelude.{◌≡◌, map, ◌+◌, ◌<◌, ◌≤◌, length, take, drop, get_or};
 ghost use Rattle.rules.specs.General.{every, every_two, those};
 ghost use Rattle.rules.specs.Places.{no_place, is_open};
@@ -101,7 +103,7 @@ fn open_sound(t: Table) -> bool
 }
 
 // What is seen of the places that are not open: whether each is sound, and whether they are all that there are.
-#[derive(Drop)]
+#[derive(Clone, Copy)]
 pub struct Idle {
     pub sound: bool,
     pub all: bool,
@@ -133,7 +135,7 @@ pub fn is_sound(t: Table, idle: Idle) -> bool
 }
 
 // The associations of the open places, one after the other, and how many there are.
-#[derive(Drop)]
+#[derive(Clone, Copy)]
 struct Named {
     names: [u16; 16],
     open: usize,
@@ -167,7 +169,7 @@ pub fn is_summed(t: Table, m: &[u64; rules::SUMMARY]) -> bool
 }
 
 // Whether a table, and a summary beside it, is sound.
-#[derive(Drop)]
+#[derive(Clone, Copy)]
 pub struct Soundness {
     pub table: bool,
     pub summary: bool,

@@ -1,5 +1,7 @@
 // Whether the places that are not open are sound: by weights. The weight of a place is all its octets and numbers, read as numbers of four octets and joined by `|`: it is 0
 // exactly where all of them are.
+#![tactic(auto)]
+
 ghost use Rattle.std.specs.Prelude.{◌≡◌, ◌&&◌, ◌≤◌, eqb, take, drop};
 ghost use Rattle.rules.specs.General.{every};
 ghost use Rattle.rules.specs.Places.{is_free};

@@ -1,4 +1,6 @@
 // Whether the open places are sound, and their digests.
+#![tactic(auto)]
+
 ghost use Rattle.std.specs.Prelude.{◌≡◌, [], ◌∷◌, map, ◌-◌, ◌*◌, ◌≤◌, take, drop};
 ghost use Rattle.rules.specs.General.{every, those};
 ghost use Rattle.rules.specs.Places.{is_open};
@@ -84,7 +86,7 @@ fn open_sound(registry: [Entry; 8], timer: u32, clock: u32, p: Place) -> bool
 }
 
 // What is seen of the open places: their digests, one after the other, and whether each is sound.
-#[derive(Drop)]
+#[derive(Clone, Copy)]
 pub struct Seen {
     pub digests: [u64; 16],
     pub open: usize,

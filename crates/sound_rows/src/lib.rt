@@ -1,4 +1,6 @@
 // Whether a summary, which its caller lends, is sound beside open places, of which their associations are told. The marks are at 0 + i, as the rules have it.
+#![tactic(auto)]
+
 ghost use Rattle.std.specs.Prelude.{◌≡◌, true, not, ◌&&◌, ◌||◌, ◌+◌, ◌<◌, ◌≤◌, ◌%◌, eqb, leb, length, take};
 ghost use Rattle.rules.specs.General.{if◌then◌else◌, every, every_two};
 ghost use Rattle.rules.specs.Summary.{every_below, row_count, is_used, is_bare, row_sound};
@@ -23,7 +25,7 @@ fn unmarked(mark: u64, number: u64) -> u64
 }
 
 // Whether every row is sound, and where so, how many are used.
-#[derive(Drop)]
+#[derive(Clone, Copy)]
 struct Rows {
     sound: bool,
     used: usize,

@@ -2,6 +2,8 @@
 // A program has no exit status, so what stands on standard error is the sign that it failed.
 //
 // Each function tells a failure itself, right after the call that failed: any later call may change errno. `what` is how the line begins, as 'replay: cannot read'.
+#![tactic(auto)]
+
 ghost use Rattle.std.specs.Prelude.{◌+◌, ◌≤◌, ◌≡◌, true, false, ltb, length};
 ghost use Rattle.io.specs.Counts.{IsPrefixLen};
 
@@ -11,7 +13,7 @@ use libc::{EINTR, STDERR_FILENO};
 const TRIES: u64 = 1000;
 
 // So many octets were read. None, and not failed: the input has ended.
-#[derive(Drop)]
+#[derive(Clone, Copy)]
 pub struct Got {
     pub count: usize,
     pub failed: bool,

@@ -1,4 +1,6 @@
 // Places of a table: which has a key, which is free; and ages.
+#![tactic(auto)]
+
 ghost use Rattle.std.specs.Prelude.{◌≡◌, ◌<◌, ◌≤◌};
 ghost use Rattle.rules.specs.Numbers.{elapsed};
 ghost use Rattle.rules.specs.Places.{same_octets, same_address, same_key, place_of, lowest_free, free_place, found_at};
@@ -57,7 +59,7 @@ pub fn same_key(a: Key, b: Key) -> bool
 }
 
 // The place that a key's segment is about: the key's own where it is found, or else the lowest free one where there is vacant, or else 0. Where the key is found vacant says nothing.
-#[derive(Drop)]
+#[derive(Clone, Copy)]
 pub struct Search {
     pub at: usize,
     pub found: bool,
@@ -126,7 +128,7 @@ fn same_addresses(a: Key, b: Key) -> bool
 }
 
 // Of some of the places the number of the one that is open with a key, and of the lowest free one where none is; 16 is none.
-#[derive(Drop)]
+#[derive(Clone, Copy)]
 struct Sought {
     at: usize,
     vacant: usize,

@@ -1,4 +1,6 @@
 // The totals program: a trace on standard input; on standard output a heading for each opening, and under it a line for each association that it took segments of.
+#![tactic(auto)]
+
 use trace::Watcher;
 
 // Whether there was an argument. A trace that is named and not read must not pass for an empty one.

@@ -1,4 +1,6 @@
 // Traces watched: what is printed of them, record by record and a block of records at a time.
+#![tactic(auto)]
+
 ghost use Rattle.std.specs.Prelude.{◌≡◌, ℕ, ◌*◌, ◌≤◌, true, List, [], length};
 ghost use Rattle.octets.specs.Splice.{Wrote};
 ghost use Rattle.rules.specs.Records.{record_length};
@@ -18,7 +20,7 @@ use trace_turns::Met;
 const TOLD: usize = 16384;
 
 // Who watches: replay prints a line for each event, records prints every record too, totals prints what each opening's rows came to.
-#[derive(Drop)]
+#[derive(Clone, Copy)]
 pub enum Watcher {
     Lines,
     Records,
@@ -26,7 +28,7 @@ pub enum Watcher {
 }
 
 // What was done with the front of an input: so many of its octets are used, so many are written, and the trace has stopped or goes on. events is the number of the last event.
-#[derive(Drop)]
+#[derive(Clone, Copy)]
 pub struct Progress {
     pub replay: Replay,
     pub events: u64,

@@ -1,4 +1,6 @@
 // An event of a trace, by its call; and the registry records kept for an open.
+#![tactic(auto)]
+
 ghost use Rattle.std.specs.Prelude.{◌≡◌, [], take, drop};
 ghost use Rattle.rules.specs.Opening.{opening};
 ghost use Rattle.rules.specs.Summary.{empty_summary};
@@ -11,7 +13,7 @@ use rules::{Decision, Received, Swept, Table};
 use trace_items::Event;
 
 // What a replay hands on beside the summary, the store and the report area. Of the registry as read nine records are kept: with nine an open is refused as with more.
-#[derive(Drop)]
+#[derive(Clone, Copy)]
 pub struct Replay {
     pub registry: [u8; 27],
     pub length: usize,

@@ -1,4 +1,6 @@
 // A record of a trace, read to its item: the length of its body by its kind, and what the body says.
+#![tactic(auto)]
+
 ghost use Rattle.std.specs.Prelude.{◌≡◌, ◌+◌, ◌≤◌, length, take, drop};
 ghost use Rattle.octets.specs.Number.{number};
 ghost use Rattle.rules.specs.Trace.{body_length, item_of};
@@ -7,7 +9,7 @@ ghost use Rattle.trace_items.specs.Reading.{body_of, item_meant, kind_for};
 use rules::Decision;
 
 // What prints a line. A segment's octets stay in the record's body.
-#[derive(Drop)]
+#[derive(Clone, Copy)]
 pub enum Event {
     Open {
         timer: u32,
@@ -23,7 +25,7 @@ pub enum Event {
 }
 
 // An event that happened: its kind, and its answer but for the table. A call that decides nothing has the decision of a refusal.
-#[derive(Drop)]
+#[derive(Clone, Copy)]
 pub struct Happening {
     pub decision: Decision,
     pub position: u16,
@@ -34,14 +36,14 @@ pub struct Happening {
 }
 
 // A record of a trace.
-#[derive(Drop)]
+#[derive(Clone, Copy)]
 pub enum Item {
     Registers,
     Happens(Event),
 }
 
 // How long a record's body is.
-#[derive(Drop)]
+#[derive(Clone, Copy)]
 pub enum Body {
     Of(usize),
     Unknown,

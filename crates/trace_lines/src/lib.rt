@@ -1,4 +1,6 @@
 // A line of the replay program, written into a lent area; and the writers of numbers and words that other lines use too.
+#![tactic(auto)]
+
 ghost use Rattle.std.specs.Prelude.{◌≡◌, [], ◌∷◌, ℕ, ◌+◌, ◌*◌, ◌≤◌, ◌<◌, length, take, drop};
 ghost use Rattle.octets.specs.Splice.{Wrote};
 ghost use Rattle.rules.specs.Records.{record_length, record_from, records_from};

@@ -1,4 +1,6 @@
 // The lines of the program records, written into a lent area: an event's, a record's, and those of sequences that are open and have no record.
+#![tactic(auto)]
+
 ghost use Rattle.std.specs.Prelude.{◌≡◌, [], ◌∷◌, ◌+◌, ◌*◌, ◌≤◌, length, take, drop};
 ghost use Rattle.octets.specs.Splice.{Wrote};
 ghost use Rattle.rules.specs.Numbers.{place_count};

@@ -1,4 +1,6 @@
 // A trace from standard input, watched block by block to standard output. What is read and what is printed of it is trace's; this reads, writes and keeps count.
+#![tactic(auto)]
+
 ghost use Rattle.std.specs.Prelude.{◌≡◌, ◌-◌, ◌≤◌, length, take, drop};
 ghost use Rattle.octets.specs.Splice.{splice};
 
@@ -7,7 +9,7 @@ use trace::{Progress, Watcher};
 use trace_events::Replay;
 
 // A replay and the number of its last event, with so many octets read and not yet used, and whether it goes on.
-#[derive(Drop)]
+#[derive(Clone, Copy)]
 pub struct Session {
     pub replay: Replay,
     pub events: u64,

@@ -1,4 +1,6 @@
 // The lines of the program totals, written into a lent area: an opening's heading, and a line for each used row of a summary.
+#![tactic(auto)]
+
 ghost use Rattle.std.specs.Prelude.{◌≡◌, [], ◌++◌, ◌+◌, ◌≤◌, ◌<◌};
 ghost use Rattle.octets.specs.Splice.{Wrote};
 ghost use Rattle.rules.specs.General.{if◌then◌else◌};

@@ -1,4 +1,6 @@
 // Traces, record by record: what the record at the front of an input does. What is printed of it is not here.
+#![tactic(auto)]
+
 ghost use Rattle.std.specs.Prelude.{◌≡◌, true, false, [], ◌+◌, ◌≤◌, length, replicate};
 ghost use Rattle.rules.specs.Opening.{unopened};
 ghost use Rattle.rules.specs.Calls.{lending};
@@ -11,7 +13,7 @@ use trace_events::Replay;
 use trace_items::{Body, Event, Happening, Item};
 
 // What the front of an input is met as: no whole record yet, what stops the trace, a registry record, an event.
-#[derive(Drop)]
+#[derive(Clone, Copy)]
 pub enum Met {
     Waits,
     Stops,
@@ -20,7 +22,7 @@ pub enum Met {
 }
 
 // What was done with the front of an input, of which so many octets are used.
-#[derive(Drop)]
+#[derive(Clone, Copy)]
 pub struct Walk {
     pub replay: Replay,
     pub met: Met,

@@ -1,4 +1,6 @@
 // The paper's examples, M and the rest, run by the compiled calls. What is printed is held to the file stdout.
+#![tactic(auto)]
+
 use libc::STDOUT_FILENO;
 use rules::{Context, Received, Reference, Request, Table};
 
