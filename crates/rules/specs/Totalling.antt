@@ -2,7 +2,7 @@
 use Rattle.std.specs.Prelude.{ℕ, zero, suc, List, [], ◌∷◌, ◌++◌}
 use Rattle.rules.specs.General.{if◌then◌else◌}
 use Rattle.rules.specs.Summary.{number_at, is_used}
-use Rattle.rules.specs.Trace.{is_opening, Sight, Observer, watching}
+use Rattle.rules.specs.Trace.{is_opening, Observer, watching}
 use Rattle.rules.specs.Lines.{decimal, field, stop_if, counted}
 
 -- the word, in ASCII: opening

@@ -1,5 +1,3 @@
-use Prim.Native.Nat.{◌-◌}
-use Rattle.rules.specs.General.{every}
 use Rattle.rules.specs.Registry.{is_usable}
 use Rattle.rules.specs.Opening.{no_entry}
 use native.Mathlib.Omega.{arith}

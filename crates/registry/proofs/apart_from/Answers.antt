@@ -1,7 +1,4 @@
-use Prim.Native.Nat.{◌-◌}
 use mathlib.Core.Path.{sym, ◌∙◌}
-use borrow.Author.Tests.{not-true, not-false}
-use Rattle.rules.specs.General.{every}
 use Rattle.rules.specs.Registry.{entries_apart}
 use Rattle.rules.specs.Opening.{no_entry}
 use Rattle.rules.proofs.Lists.{every-fails, every-goes, every-ends}

@@ -1,6 +1,5 @@
-use Prim.Native.Nat.{◌-◌, ◌+◌}
+use Prim.Native.Nat.{◌+◌}
 use mathlib.Core.Path.{sym, ◌∙◌}
-use borrow.Author.Tests.{not-true, not-false}
 use lib.ListN.{drop, get_or}
 use Rattle.rules.specs.Opening.{no_entry}
 use Rattle.rules.proofs.Lists.{two-fail, two-go, two-end}

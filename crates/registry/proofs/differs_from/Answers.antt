@@ -1,9 +1,7 @@
-use Prim.Native.Nat.{◌-◌}
 use mathlib.Core.Path.{ap}
 use mathlib.Core.Bool.{not}
 use borrow.Author.Tests.{eq-eqb, ne_eqb}
 use native.Mathlib.Omega.{arith}
-use Rattle.rules.specs.General.{every}
 use Rattle.rules.specs.Opening.{no_entry}
 use Rattle.rules.proofs.Lists.{every-fails, every-goes, every-ends}
 use Rattle.registry.specs.Contexts.{has_other}

@@ -12,5 +12,5 @@ returns c =
     let g = f in
     let s = g in
     simp or-nought
-    (rw (c.word-5.ensures.result_value.0, d.word-4.ensures.result_value.0, e.word-3.ensures.result_value.0, f.word-2.ensures.result_value.0, g.word.ensures.result_value.0)
-    (sym (address-zero s.args.a (simp length-map at s.well-formed.0.1.1.0.1.0.1))))
+    (rw (c.word-5.ensures.result_value, d.word-4.ensures.result_value, e.word-3.ensures.result_value, f.word-2.ensures.result_value, g.word.ensures.result_value)
+    (sym (address-zero s.args.a (simp length-map at s.well_formed.0.1.1.0.1.0.1))))

@@ -6,4 +6,4 @@ returns c =
     let o = c in
     let w = o in
     let p = w.args.p in
-    weight-nought p _ _ _ o.address_weight.ensures c.address_weight-2.ensures w.word-rest.ensures.result_value.0
+    weight-nought p _ _ _ o.address_weight.ensures c.address_weight-2.ensures w.word-rest.ensures.result_value

@@ -6,4 +6,4 @@ use Rattle.sound_free.proofs.word.Goals as goal
 pub returns : goal.returns
 returns c =
     let a = c.args in
-    (refl, (word-nought a.a a.b a.c a.d, search rules))
+    record { value = refl; result_value = word-nought a.a a.b a.c a.d; upper_bound = search rules }

@@ -5,4 +5,4 @@ use Rattle.table.proofs.elapsed.Goals as goal
 pub returns : goal.returns
 returns c =
     let a = c.args in
-    elapsed-is a.new a.old c.wrapping_sub_u32.result (omega arith) (omega arith) (omega arith) c.wrapping_sub_u32.ensures
+    elapsed-is a.new a.old c.wrapping_sub_u32.result (omega arith) (omega arith) (omega arith) c.wrapping_sub_u32.ensures.value

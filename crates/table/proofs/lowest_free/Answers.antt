@@ -1,4 +1,4 @@
-use Rattle.std.proofs.Common.{◌-◌, arith, eq-eqb, ne_eqb}
+use Rattle.std.proofs.Common.{arith, eq-eqb, ne_eqb}
 use Rattle.rules.specs.Places.{is_free}
 use Rattle.rules.proofs.Lists.{first_found, first_goes, first_ends}
 use Rattle.table.proofs.lowest_free.Goals as goal

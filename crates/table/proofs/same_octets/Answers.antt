@@ -1,4 +1,4 @@
-use Rattle.std.proofs.Common.{◌-◌, arith}
+use Rattle.std.proofs.Common.{arith}
 use Rattle.rules.proofs.Lists.{octets-differ, octets-agree, octets-end}
 use Rattle.table.proofs.same_octets.Goals as goal
 

@@ -1,8 +1,9 @@
-use Rattle.std.proofs.Common.{◌≡◌, ◌+◌, ◌-◌, true, false, get_or, sym, refl, ◌∙◌, ⊎_elim, arith, ne_eqb}
+use Rattle.std.proofs.Common.{◌≡◌, ◌+◌, true, false, get_or, sym, refl, ◌∙◌, arith, ne_eqb}
 use Rattle.rules.specs.Places.{no_place, holds, is_free}
 use Rattle.rules.proofs.Lists.{first_found, first_goes}
 use Rattle.table.proofs.Seeking.{unlike, decided, sought-more}
 use Rattle.table.proofs.seek_in.Goals as goal
+use Rattle.table.proofs.seek_in.Goals.{then-alike+else-same_addresses, else-alike}
 
 pub loop-i-init : goal.loop-i-init
 loop-i-init c = (omega arith, (refl, (refl, omega arith)))
@@ -28,7 +29,12 @@ loop-i-preserved c =
     let l = j in
     let a = l.args in
     let p = get_or a.places l.loop-i.i no_place in
-    let missed : holds a.k p ≡ false = ⊎_elim (λ w. decided p a.k _ w.3.ensures false w.4.left w.0.taken) (λ w. unlike p a.k w.left) j.if-alike.branch in (
+    let missed : holds a.k p ≡ false =
+    elim c.if-alike.branch [
+      | then-alike+else-same_addresses w ↦ decided p a.k _ w.same_addresses.ensures false w.if-same_addresses.false w.if-alike.true
+      | else-alike w ↦ unlike p a.k w.if-alike.false
+    ]
+    in (
       omega arith,
       (
         first_goes (holds a.k) a.places l.loop-i.i _ l.loop-i.invariant.1.0 (omega arith) missed,
