@@ -228,7 +228,7 @@ fair-some c (x ∷ l) f e = never (cc)
 lost-order : (u : Key → List Segment) (cause : ℕ) (rs : List Record) → AllTidy u → All (IsLost cause) rs → All Fair (covers_of u rs) → All InOrder (covers_of u rs)
 lost-order u cause [] tidy l f = tt
 lost-order u cause (r ∷ rs) tidy l f = (
-  record { delivered = λ e. let q = l.0.kind in absurd (omega arith); alone = λ e. absurd (fair-some _ (u r.key) f.0 ((tidy r.key).alone e)) },
+  record { delivered = λ e. let q = l.0.kind in absurd (omega arith); alone = λ e. absurd (fair-some (record { made = r; segments = u r.key }) (u r.key) f.0 ((tidy r.key).alone e)) },
   lost-order (filed u r.key []) cause rs (tidy-filed u r.key [] tidy (tidy-none r.key)) l.1 f.1,
 )
 

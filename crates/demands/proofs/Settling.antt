@@ -85,6 +85,10 @@ module _ (t : Table) (store s : List ℕ) (f : Fields) (k : Key) (u : Key → Li
   abbrev x : Segment
   x = segment_from f octets t.clock number ticks
 
+  -- a record of the key, and that it covers the segment and all before it
+  abbrev covering : ℕ → ℕ → ℕ → ℕ → ℕ → Cover
+  covering kind cause instruction segments size = record { made = record_with kind cause k instruction segments size; segments = u k ++ (x ∷ []) }
+
   small : length octets ≤ 255
   small = simp length-drop (omega arith)
 
@@ -123,7 +127,7 @@ module _ (t : Table) (store s : List ℕ) (f : Fields) (k : Key) (u : Key → Li
     alone-done place vacant p =
         ended_by_lem Unsegmented refl (Delivered (OfParameter f.information (length octets))) delivered 0 f.heading.instruction 1 (length octets) t.places store
         (omega (arith, small)) refl
-        (counted-one x (u k) _ none refl refl refl)
+        (counted-one x (u k) (covering delivered 0 f.heading.instruction 1 (length octets)) none refl refl refl)
         (part-tail s f.information ∙ rw none (simp append-nil))
         stays
 
@@ -131,7 +135,7 @@ module _ (t : Table) (store s : List ℕ) (f : Fields) (k : Key) (u : Key → Li
     unfolding effect_of delivery
     lone-done cause vacant =
         ended_by_lem (Broken cause) refl (Lost cause Nothing) lost cause f.heading.instruction (0 + 1) (0 + length octets) t.places store (omega (arith, small)) refl
-        (counted-one x (u k) _ none (omega arith) (omega arith) refl) refl stays
+        (counted-one x (u k) (covering lost cause f.heading.instruction (0 + 1) (0 + length octets)) none (omega arith) (omega arith) refl) refl stays
 
   -- a place's stretch is in the store
   within : (i : ℕ) → i < length t.places → (at : ℕ) → at + length octets ≤ 2048 → place_start i + at + length octets ≤ length store
@@ -165,7 +169,7 @@ module _ (t : Table) (store s : List ℕ) (f : Fields) (k : Key) (u : Key → Li
     unfolding effect_of delivery
     broken-done cause vacant =
         ended_by_lem (Broken cause) refl (Lost cause (At i)) lost cause p.instruction (p.segments + 1) (p.octets + length octets) (set t.places i free_place) store size refl
-        (counted-more (view_of store i p) x (u k) _ owed-here refl refl refl) refl
+        (counted-more (view_of store i p) x (u k) (covering lost cause p.instruction (p.segments + 1) (p.octets + length octets)) owed-here refl refl refl) refl
         (freed store store t.places u exact i free_place inside (λ j l e. refl) k op refl)
 
     restart-done : (vacant : Found) → Done Restart (effect_of Restart t store k f octets (At i) p vacant)
@@ -175,7 +179,7 @@ module _ (t : Table) (store s : List ℕ) (f : Fields) (k : Key) (u : Key → Li
           fits = (record { addresses = fit.addresses; association = fit.association; context = fit.context; octets = let z = size in omega arith }, tt);
           one = omega arith;
           ends = refl;
-          fair = (counted-all (view_of store i p) (u k) _ owed-here refl refl refl, tt);
+          fair = (counted-all (view_of store i p) (u k) (record { made = record_with lost 3 k p.instruction p.segments p.octets; segments = u k }) owed-here refl refl refl, tt);
           handed = refl;
           exact = λ k'.
               renewed store (save_at store i 0 octets) t.places u exact i (begun t.clock k f.heading (length octets)) inside (apart0 i) k (x ∷ []) op begun-holds (begun-view i inside) k'
@@ -201,7 +205,7 @@ module _ (t : Table) (store s : List ℕ) (f : Fields) (k : Key) (u : Key → Li
       final-done =
           ended_by_lem Final refl (Delivered (OfStore i (p.octets + length octets))) delivered 0 p.instruction (p.segments + 1) (p.octets + length octets)
           (set t.places i free_place) store' size refl
-          (counted-more (view_of store i p) x (u k) _ owed-here refl refl refl)
+          (counted-more (view_of store i p) x (u k) (covering delivered 0 p.instruction (p.segments + 1) (p.octets + length octets)) owed-here refl refl refl)
           (part ∙ read ∙ sym (joined-owed (view_of store i p) x (u k) owed-here) ∙ sym (append-nil (joined (u k ++ (x ∷ [])))))
           (freed store store' t.places u exact i free_place inside (apart-save t good store i p.octets octets fits) k op refl)
 

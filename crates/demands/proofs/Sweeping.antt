@@ -26,7 +26,7 @@ module _ (store : List ℕ) (test : Place → Bool) (opens : (p : Place) → tes
       → Swept store test cause i (p ∷ ps) u a
   sweep-hit i p ps u a hyp e ih =
       record {
-        fair = rw e (counted-all (view_of store i p) (u p.key) _ s.mid refl refl refl, (ih hyp').fair);
+        fair = rw e (counted-all (view_of store i p) (u p.key) (record { made = loss_of cause p; segments = u p.key }) s.mid refl refl refl, (ih hyp').fair);
         quiet = rw e (ih hyp').quiet;
         exact = λ k. rw e ((ih hyp').exact k);
       }
