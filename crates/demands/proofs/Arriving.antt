@@ -1,4 +1,5 @@
 -- What a segment does that reads as a heading, an address and information.
+use Rattle.std.specs.Prelude.{if◌then◌else◌}
 use Prim.Native.Nat.{ℕ, ◌+◌, ◌≤◌, ◌<◌}
 use mathlib.Core.Path.{◌≡◌, ap, ◌∙◌}
 use mathlib.Core.Bool.{Bool, true, false, not, ◌&&◌}
@@ -10,7 +11,6 @@ use lib.ListN.{length, get_or, set, take, drop, length-set, length-append}
 use lib.Seq.{get_or-set_same, get_or-set_other, take-add, drop-drop}
 use Rattle.octets.specs.Splice.{splice}
 use Rattle.octets.proofs.Splice.{splice-back, splice-below}
-use Rattle.rules.specs.General.{if◌then◌else◌}
 use Rattle.rules.specs.Numbers.{store_least, place_start}
 use Rattle.rules.specs.Refusals.{Check, accepted}
 use Rattle.rules.specs.Layout.{is_unsegmented, fields_of, reading_checks}

@@ -1,4 +1,5 @@
 -- BALANCE of the machine that the rules are: of every association, what was taken is what the records cover and what its open places hold.
+use Rattle.std.specs.Prelude.{if◌then◌else◌}
 use Prim.Native.Nat.{ℕ, zero, suc, ◌+◌, ◌<◌}
 use mathlib.Core.Path.{◌≡◌, refl, sym, ap, ◌∙◌}
 use mathlib.Core.Bool.{Bool, true, false, not, ◌&&◌, and-eq-true_iff, true≢false}
@@ -8,7 +9,7 @@ use native.Mathlib.Omega.{arith}
 use borrow.Author.Tests.{eqb-true, ne_eqb}
 use lib.Dec.{eqb}
 use lib.ListN.{length, get_or, set, replicate}
-use Rattle.rules.specs.General.{if◌then◌else◌, those}
+use Rattle.rules.specs.General.{those}
 use Rattle.rules.specs.Numbers.{place_count}
 use Rattle.rules.specs.Layout.{fields_of}
 use Rattle.rules.specs.Records.{delivered, lost}

@@ -1,4 +1,5 @@
 -- TWO EXCHANGES BEHIND ONE GATEWAY: each one's segments spare the other's key, and of two free places each takes one at most.
+use Rattle.std.specs.Prelude.{if◌then◌else◌}
 use Prim.Native.Nat.{ℕ, zero, suc, ◌≤◌, ◌<◌}
 use mathlib.Core.Path.{◌≡◌, refl, sym, ap, ◌∙◌, subst}
 use mathlib.Core.Bool.{Bool, true, false, ◌||◌, and-eq-true_iff}
@@ -8,7 +9,6 @@ use borrow.Author.Tests.{eqb-true, eqb-false, not-true}
 use lib.Dec.{eqb}
 use lib.ListN.{length, get_or}
 use Rattle.rules.specs.Layout.{fields_of}
-use Rattle.rules.specs.General.{if◌then◌else◌}
 use Rattle.rules.specs.Places.{no_place, free_place, is_free, holds, place_of, lowest_free, is_at, number_of}
 use Rattle.rules.specs.Receiving.{key_of}
 use Rattle.rules.specs.Sweep.{sweep, is_due}

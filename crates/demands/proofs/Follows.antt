@@ -1,4 +1,5 @@
 -- What follows: of any machine that meets demand 3 all is delivered in order, and of any machine nothing accepted is forgotten.
+use Rattle.std.specs.Prelude.{if◌then◌else◌}
 use Prim.Native.Nat.{ℕ, ◌+◌, ◌≤◌, ◌<◌}
 use mathlib.Core.Path.{◌≡◌, refl, sym, ap, ◌∙◌}
 use mathlib.Core.Bool.{Bool, true, false, not, and-false}
@@ -7,7 +8,6 @@ use native.Mathlib.Omega.{arith}
 use borrow.Author.Tests.{ne_eqb}
 use lib.Dec.{eqb}
 use lib.ListN.{length, length-append}
-use Rattle.rules.specs.General.{if◌then◌else◌}
 use Rattle.rules.specs.Refusals.{accepted}
 use Rattle.rules.specs.Layout.{is_unsegmented, fields_of, reading_checks}
 use Rattle.rules.specs.Records.{delivered, lost}

@@ -1,4 +1,5 @@
 -- DEMAND 3 of the machine that the rules are: the state and the history that led there agree, and every call keeps them so.
+use Rattle.std.specs.Prelude.{if◌then◌else◌}
 use Prim.Native.Nat.{ℕ, ◌+◌, ◌-◌, ◌*◌, ◌≤◌, ◌<◌, ◌^◌}
 use mathlib.Core.Path.{◌≡◌, refl, sym, ap, ap₂, subst, ◌∙◌}
 use mathlib.Core.Bool.{Bool, true, false, not, and-eq-true_iff, true≢false}
@@ -8,7 +9,6 @@ use borrow.Author.Tests.{ne_eqb}
 use lib.Dec.{eqb, leb}
 use lib.ListN.{length, get_or}
 use Rattle.octets.specs.Splice.{splice}
-use Rattle.rules.specs.General.{if◌then◌else◌}
 use Rattle.rules.specs.Numbers.{elapsed}
 use Rattle.rules.specs.Refusals.{accepted, first, fault, unplaced}
 use Rattle.rules.specs.Registry.{entries_of}

@@ -1,4 +1,5 @@
 -- One place changes, and of the store only its stretch: what is held of each key then.
+use Rattle.std.specs.Prelude.{if◌then◌else◌}
 use Prim.Native.Nat.{ℕ, ◌+◌, ◌≤◌, ◌<◌}
 use mathlib.Core.Path.{◌≡◌, refl, sym, ap, ap₂, ◌∙◌}
 use mathlib.Core.Logic.{◌≢◌}
@@ -11,7 +12,6 @@ use lib.Dec.{ltb}
 use lib.ListN.{length, take, drop, get_or, set}
 use lib.Seq.{take-add, drop-drop}
 use Rattle.octets.proofs.Splice.{splice-below, splice-above, splice-back}
-use Rattle.rules.specs.General.{if◌then◌else◌}
 use Rattle.rules.specs.Numbers.{place_start}
 use Rattle.rules.specs.Places.{same_key, no_place, is_open, holds}
 use Rattle.rules.specs.Soundness.{place_sound, sound}

@@ -1,11 +1,11 @@
 -- Demand 1 holds of the rules.
+use Rattle.std.specs.Prelude.{if◌then◌else◌}
 use Prim.Native.Nat.{ℕ, ◌≤◌}
 use mathlib.Core.Path.{◌≡◌, refl, sym, ap, subst, ◌∙◌}
 use mathlib.Core.Bool.{Bool, true, false, true≢false}
 use mathlib.Core.List.{List, [], ◌∷◌, ◌++◌}
 use native.Mathlib.Omega.{arith}
 use lib.ListN.{drop}
-use Rattle.rules.specs.General.{if◌then◌else◌}
 use Rattle.rules.specs.Refusals.{nowhere, Check, accepted, first, first_at, fault}
 use Rattle.rules.specs.Delivery.{delivery}
 use Rattle.rules.specs.Sweep.{sweep, clock_checks, release_checks}

@@ -1,4 +1,5 @@
 -- What is printed of any octets is told by a run that meets the demands.
+use Rattle.std.specs.Prelude.{if◌then◌else◌}
 use Prim.Native.Nat.{ℕ, zero, suc, ◌+◌, ◌*◌, ◌≤◌, ◌<◌}
 use mathlib.Core.Path.{◌≡◌, refl, ap}
 use mathlib.Core.Bool.{Bool, true, false, ◌&&◌}
@@ -7,7 +8,6 @@ use native.Mathlib.Omega.{arith}
 use lib.Dec.{eqb, leb}
 use lib.ListN.{length, take, drop, length-take, length-drop}
 use Rattle.octets.specs.Number.{number_from, number}
-use Rattle.rules.specs.General.{if◌then◌else◌}
 use Rattle.rules.specs.Numbers.{place_count}
 use Rattle.rules.specs.Layout.{octet}
 use Rattle.rules.specs.Opening.{unopened}

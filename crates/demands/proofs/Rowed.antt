@@ -1,4 +1,5 @@
 -- A summary whose rows are the associations in their order, each with the numbers that the log gives; and how it grows.
+use Rattle.std.specs.Prelude.{if◌then◌else◌}
 use Prim.Native.Nat.{ℕ, zero, suc, ◌+◌, ◌*◌, ◌≤◌, ◌<◌}
 use mathlib.Core.Path.{◌≡◌, refl, sym, ap, ◌∙◌}
 use mathlib.Core.Bool.{Bool, true, false, ◌||◌, and-eq-true_iff, true≢false}
@@ -8,7 +9,6 @@ use borrow.Author.Tests.{eqb-true, eqb-false, eq-eqb, ne_eqb, ltb-true, ltb-fals
 use lib.Dec.{eqb, ltb}
 use lib.ListN.{length, get_or, set, length-append, length-set, get_or-append}
 use lib.Seq.{get_or-append_seam, get_or-set_same, get_or-set_other, set-get_or}
-use Rattle.rules.specs.General.{if◌then◌else◌}
 use Rattle.rules.specs.Records.{delivered, lost}
 use Rattle.rules.specs.Summary.{row_count, number_at, is_used, is_unused, is_for, row_of, unused_row, row_for, or_else, tally, seat}
 use Rattle.rules.specs.declared.Found.{Found}

@@ -1,9 +1,9 @@
 -- What an invariant gives along every run of the machine of the rules; and what a call leaves of the history.
+use Rattle.std.specs.Prelude.{if◌then◌else◌}
 use mathlib.Core.Path.{◌≡◌, refl, sym, ap, ap₂, subst, ◌∙◌}
 use mathlib.Core.Bool.{Bool, true, false}
 use mathlib.Core.List.{List, [], ◌∷◌, map}
 use lib.Dec.{eqb}
-use Rattle.rules.specs.General.{if◌then◌else◌}
 use Rattle.rules.specs.Arrival.{stands}
 use Rattle.rules.specs.Calls.{State, Call, Opens, Arrives, Ticks, Releases, Sends, Opening, Arrival, Answer, step}
 use Rattle.demands.specs.Machine.{Machine, ours, parameter_of, is_opening, All, InRange}

@@ -1,4 +1,5 @@
 -- An accepted segment, line by line: its record is fair to what it covers, and what no record covers is held.
+use Rattle.std.specs.Prelude.{if◌then◌else◌}
 use Prim.Native.Nat.{ℕ, ◌+◌, ◌≤◌, ◌<◌, ◌^◌}
 use mathlib.Core.Path.{◌≡◌, refl, sym, ap, ◌∙◌}
 use mathlib.Core.Bool.{Bool, true, false, not, ◌&&◌}
@@ -10,7 +11,6 @@ use lib.Dec.{eqb, leb}
 use lib.ListN.{length, take, drop, get_or, set, length-drop, drop_of_length-le}
 use lib.Seq.{take_all}
 use Rattle.octets.proofs.Splice.{splice-length}
-use Rattle.rules.specs.General.{if◌then◌else◌}
 use Rattle.rules.specs.Numbers.{place_start, store_least, place_count, stretch_length}
 use Rattle.rules.specs.Layout.{is_unsegmented}
 use Rattle.rules.specs.Records.{delivered, lost, FilledKey}

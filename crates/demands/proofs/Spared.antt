@@ -1,4 +1,5 @@
 -- A call that spares a key leaves the key's place, and what was saved there.
+use Rattle.std.specs.Prelude.{if◌then◌else◌}
 use Prim.Native.Nat.{ℕ, zero, suc, ◌+◌, ◌≤◌, ◌<◌}
 use mathlib.Core.Path.{◌≡◌, refl, sym, ap, ◌∙◌, subst}
 use mathlib.Core.Bool.{Bool, true, false, not, ◌&&◌, and-eq-true_iff}
@@ -9,7 +10,7 @@ use lib.Dec.{eqb, ltb}
 use lib.ListN.{length, length-map, get_or-map, get_or, set, take, drop, length-set, length-drop}
 use lib.Seq.{get_or-set_same, get_or-set_other}
 use Rattle.octets.proofs.Splice.{splice-length, splice-below, splice-above}
-use Rattle.rules.specs.General.{if◌then◌else◌, those}
+use Rattle.rules.specs.General.{those}
 use Rattle.rules.specs.Numbers.{data_most, place_start}
 use Rattle.rules.specs.Refusals.{Check, accepted, fault}
 use Rattle.rules.specs.Layout.{is_unsegmented, fields_of, reading_checks}

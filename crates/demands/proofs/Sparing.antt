@@ -1,4 +1,5 @@
 -- Every call that spares a key leaves its place; a sweep does because each place that it frees has its record, and that is read back.
+use Rattle.std.specs.Prelude.{if◌then◌else◌}
 use Prim.Native.Nat.{ℕ, ◌≤◌}
 use mathlib.Core.Path.{◌≡◌, refl, subst}
 use mathlib.Core.Bool.{Bool, true, false, and-eq-true_iff}
@@ -6,7 +7,7 @@ use mathlib.Core.List.{List, [], ◌∷◌, map}
 use native.Mathlib.Omega.{arith}
 use borrow.Author.Tests.{ltb-false, not-true}
 use lib.ListN.{length}
-use Rattle.rules.specs.General.{if◌then◌else◌, every, those}
+use Rattle.rules.specs.General.{every, those}
 use Rattle.rules.specs.Refusals.{accepted}
 use Rattle.rules.specs.Registry.{is_usable}
 use Rattle.rules.specs.Records.{records_from}

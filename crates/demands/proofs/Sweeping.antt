@@ -1,9 +1,10 @@
 -- A sweep over the places: those that a test is for give a record each, fair to what it covers, and are free afterwards.
+use Rattle.std.specs.Prelude.{if◌then◌else◌}
 use Prim.Native.Nat.{ℕ, suc}
 use mathlib.Core.Path.{◌≡◌, refl, sym, ap, ap₂, ◌∙◌}
 use mathlib.Core.Bool.{Bool, true, false}
 use mathlib.Core.List.{List, [], ◌∷◌, ◌++◌, append_assoc, map}
-use Rattle.rules.specs.General.{if◌then◌else◌, those}
+use Rattle.rules.specs.General.{those}
 use Rattle.rules.specs.Places.{same_key, is_open, holds}
 use Rattle.rules.specs.Sweep.{loss_of, freed_by, losses_by}
 use Rattle.rules.specs.declared.Key.{Key}

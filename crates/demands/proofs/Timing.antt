@@ -1,4 +1,5 @@
 -- The timer: ages on the clock are true ages, and a clock call loses exactly what is T old.
+use Rattle.std.specs.Prelude.{if◌then◌else◌}
 use Prim.Native.Nat.{ℕ, suc, ◌+◌, ◌-◌, ◌%◌, ◌≤◌, ◌<◌, ◌^◌}
 use mathlib.Core.Path.{◌≡◌, refl, ap, ap₂, ◌∙◌}
 use mathlib.Core.Logic.{◌↔◌}
@@ -8,7 +9,7 @@ use native.Mathlib.Omega.{arith}
 use borrow.Author.Tests.{eqb-true, ne_eqb, leb-true, le-leb, ltb-true}
 use lib.Dec.{eqb, leb, ltb}
 use lib.ListN.{length}
-use Rattle.rules.specs.General.{if◌then◌else◌, every, those}
+use Rattle.rules.specs.General.{every, those}
 use Rattle.rules.specs.Numbers.{elapsed}
 use Rattle.rules.specs.Records.{lost}
 use Rattle.rules.specs.Places.{same_key, is_open, holds}

@@ -1,4 +1,5 @@
 -- TOTALS of the machine that the rules are: every call leaves the numbers that the log gives.
+use Rattle.std.specs.Prelude.{if◌then◌else◌}
 use Prim.Native.Nat.{ℕ, suc, ◌+◌, ◌*◌, ◌<◌}
 use mathlib.Core.Path.{◌≡◌, refl, sym, ap, ◌∙◌}
 use mathlib.Core.Bool.{Bool, true, false, not, ◌&&◌, ◌||◌, and-eq-true_iff, true≢false}
@@ -6,7 +7,7 @@ use mathlib.Core.List.{List, [], ◌∷◌, ◌++◌, map, append-nil, append_as
 use native.Mathlib.Omega.{arith}
 use lib.Dec.{eqb}
 use lib.ListN.{length}
-use Rattle.rules.specs.General.{if◌then◌else◌, every, those}
+use Rattle.rules.specs.General.{every, those}
 use Rattle.rules.specs.Layout.{fields_of}
 use Rattle.rules.specs.Records.{delivered, lost}
 use Rattle.rules.specs.Places.{is_open, is_at}

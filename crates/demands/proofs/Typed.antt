@@ -1,11 +1,11 @@
 -- The table after any call has what the types of its fields say.
+use Rattle.std.specs.Prelude.{if◌then◌else◌}
 use Prim.Native.Nat.{ℕ, zero, suc, ◌≤◌, ◌<◌, ◌^◌}
 use mathlib.Core.Path.{◌≡◌, refl, ◌∙◌}
 use mathlib.Core.Bool.{Bool, true, false}
 use mathlib.Core.List.{List, [], ◌∷◌, map}
 use native.Mathlib.Omega.{arith}
 use lib.ListN.{length, set, replicate, length-set, length-map}
-use Rattle.rules.specs.General.{if◌then◌else◌}
 use Rattle.rules.specs.Numbers.{place_count, address_most}
 use Rattle.rules.specs.Layout.{fields_of}
 use Rattle.rules.specs.Places.{free_place, put_place}

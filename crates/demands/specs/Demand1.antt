@@ -1,7 +1,6 @@
 -- DEMAND 1. Every call ends with an answer for every input. Bad input gets a numbered refusal, and a refused call changes neither the table nor any lent octet. Of an arrival that is refused
 -- for its segment alone (document 02, A6), the segment changes nothing, and the call leaves and reports what the clock's call leaves and reports.
-use Rattle.std.specs.Prelude.{◌≡◌, false, []}
-use Rattle.rules.specs.General.{if◌then◌else◌}
+use Rattle.std.specs.Prelude.{if◌then◌else◌, ◌≡◌, false, []}
 use Rattle.rules.specs.Refusals.{accepted, first, first_at}
 use Rattle.rules.specs.Opening.{unopened}
 use Rattle.rules.specs.Summary.{empty_summary}

@@ -1,7 +1,6 @@
 -- DEMAND 2, the round trip. Data that we cut comes back unchanged when its segments arrive in order at a table with the same kind for the context, each at a time that is accepted, a
 -- place is free for the first, the summary can count each (neither 21 nor 22 applies), and nothing else touches that sequence meanwhile: a timeout in a segment's own arrival does.
-use Rattle.std.specs.Prelude.{ℕ, suc, ◌+◌, ◌*◌, ◌≤◌, ◌<◌, ◌^◌, ◌≡◌, Bool, true, false, ◌||◌, List, [], length, take, drop}
-use Rattle.rules.specs.General.{if◌then◌else◌}
+use Rattle.std.specs.Prelude.{if◌then◌else◌, ℕ, suc, ◌+◌, ◌*◌, ◌≤◌, ◌<◌, ◌^◌, ◌≡◌, Bool, true, false, ◌||◌, List, [], length, take, drop}
 use Rattle.octets.specs.Splice.{splice}
 use Rattle.rules.specs.Numbers.{store_least}
 use Rattle.rules.specs.Refusals.{nowhere, accepted}

@@ -1,6 +1,5 @@
 -- DEMAND 3. From one opening, refused or not, until the next, through any calls made with the table and store as the last call left them.
-use Rattle.std.specs.Prelude.{ℕ, suc, ◌≡◌, true, List, [], ◌∷◌, ◌++◌, map, eqb, length, take, drop}
-use Rattle.rules.specs.General.{if◌then◌else◌}
+use Rattle.std.specs.Prelude.{if◌then◌else◌, ℕ, suc, ◌≡◌, true, List, [], ◌∷◌, ◌++◌, map, eqb, length, take, drop}
 use Rattle.rules.specs.Numbers.{place_start}
 use Rattle.rules.specs.Refusals.{accepted}
 use Rattle.rules.specs.Layout.{reading_checks}

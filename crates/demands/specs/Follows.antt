@@ -1,7 +1,6 @@
 -- WHAT FOLLOWS. Of any machine that meets demand 3: what is delivered came in order, an unsegmented parameter's record covers it alone, and the octets of its Delivered records, which
 -- are what is billed, are as many as were handed over. Of any machine that meets demand 1: a context has one form only in what it accepts, and a position says which octet of a refused parameter to look at. Of any machine: since the last opening nothing that was accepted is forgotten by the history, or covered twice.
-use Rattle.std.specs.Prelude.{ℕ, ◌+◌, ◌≤◌, ◌<◌, ◌≡◌, Bool, true, false, ◌||◌, List, [], ◌∷◌, ◌++◌, eqb, length, take}
-use Rattle.rules.specs.General.{if◌then◌else◌}
+use Rattle.std.specs.Prelude.{if◌then◌else◌, ℕ, ◌+◌, ◌≤◌, ◌<◌, ◌≡◌, Bool, true, false, ◌||◌, List, [], ◌∷◌, ◌++◌, eqb, length, take}
 use Rattle.rules.specs.Numbers.{parameter_most}
 use Rattle.rules.specs.Refusals.{nowhere}
 use Rattle.rules.specs.Layout.{context_of, context_part, context_octets}

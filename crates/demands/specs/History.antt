@@ -1,6 +1,5 @@
 -- What was accepted and what records cover of it, told from the calls, their answers and the octets of the reports alone: it never sees the table or the store.
-use Rattle.std.specs.Prelude.{ℕ, ◌+◌, ◌-◌, ◌*◌, Bool, true, false, not, List, [], ◌∷◌, ◌++◌, eqb, length, drop}
-use Rattle.rules.specs.General.{if◌then◌else◌}
+use Rattle.std.specs.Prelude.{if◌then◌else◌, ℕ, ◌+◌, ◌-◌, ◌*◌, Bool, true, false, not, List, [], ◌∷◌, ◌++◌, eqb, length, drop}
 use Rattle.rules.specs.Numbers.{elapsed}
 use Rattle.rules.specs.Registry.{entries_of}
 use Rattle.rules.specs.Layout.{fields_of}

@@ -1,6 +1,5 @@
 -- WHAT IS PRINTED of a trace, by replay, by records or by any other observer, is told by what is seen of a run that meets the demands: event by event, and the end.
-use Rattle.std.specs.Prelude.{ℕ, ◌≡◌, Bool, true, false, List, [], ◌∷◌, ◌++◌, length}
-use Rattle.rules.specs.General.{if◌then◌else◌}
+use Rattle.std.specs.Prelude.{if◌then◌else◌, ℕ, ◌≡◌, Bool, true, false, List, [], ◌∷◌, ◌++◌, length}
 use Rattle.rules.specs.Calls.{State, step}
 use Rattle.rules.specs.Trace.{Item, Registers, Happens, Stops, items_of, Replay, beginning, call_of, happened, registered}
 use Rattle.rules.specs.Trace.{Sight, sight_of, Observer, watching}

@@ -1,6 +1,5 @@
 -- THE TIMER. A sequence is lost with cause 6 exactly at the first accepted clock work, of a clock call or of an arrival, at which its true age is T or more.
-use Rattle.std.specs.Prelude.{ℕ, ◌+◌, ◌-◌, ◌≤◌, ◌≡◌, ◌↔◌, Bool, true, false, ◌&&◌, List, [], ◌∷◌, eqb}
-use Rattle.rules.specs.General.{if◌then◌else◌}
+use Rattle.std.specs.Prelude.{if◌then◌else◌, ℕ, ◌+◌, ◌-◌, ◌≤◌, ◌≡◌, ◌↔◌, Bool, true, false, ◌&&◌, List, [], ◌∷◌, eqb}
 use Rattle.rules.specs.Numbers.{elapsed}
 use Rattle.rules.specs.Records.{lost}
 use Rattle.rules.specs.Places.{same_key}

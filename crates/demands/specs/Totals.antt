@@ -1,8 +1,7 @@
 -- TOTALS. At any moment from an opening on, refused or not, through any calls, all 512 numbers of the summary are what the history gives: a row for each association, in the order in
 -- which they were first taken; taken is counted from the accepted segments, delivered and lost from the segments that the records cover.
 -- BALANCE. Of each row, taken is delivered and lost and what the open places of its association hold.
-use Rattle.std.specs.Prelude.{ℕ, ◌+◌, ◌-◌, ◌<◌, ◌≡◌, Bool, true, false, ◌&&◌, ◌||◌, List, [], ◌∷◌, ◌++◌, map, eqb, length, replicate}
-use Rattle.rules.specs.General.{if◌then◌else◌}
+use Rattle.std.specs.Prelude.{if◌then◌else◌, ℕ, ◌+◌, ◌-◌, ◌<◌, ◌≡◌, Bool, true, false, ◌&&◌, ◌||◌, List, [], ◌∷◌, ◌++◌, map, eqb, length, replicate}
 use Rattle.rules.specs.Records.{delivered, lost}
 use Rattle.rules.specs.Places.{is_open}
 use Rattle.rules.specs.Summary.{number_at, is_used}

@@ -1,4 +1,5 @@
 -- The part that crosses as numbers is the delivery.
+use Rattle.std.specs.Prelude.{if◌then◌else◌}
 use Prim.Native.Nat.{ℕ, ◌+◌, ◌≤◌, ◌<◌}
 use mathlib.Core.Path.{◌≡◌, refl, ap}
 use mathlib.Core.Bool.{Bool, true, false, ◌&&◌}
@@ -9,7 +10,6 @@ use lib.Seq.{length-take-le}
 use native.Mathlib.Omega.{arith}
 use native.Mathlib.Nat.{suc-ne-zero}
 use borrow.Author.Tests.{leb-true, ltb-true, ne_eqb}
-use Rattle.rules.specs.General.{if◌then◌else◌}
 use Rattle.rules.specs.Numbers.{place_count, stretch_length, place_start}
 use Rattle.rules.specs.Delivery.{part_of, part_of_place, delivery}
 use Rattle.rules.specs.declared.Part.{Part}

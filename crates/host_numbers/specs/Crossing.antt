@@ -1,6 +1,5 @@
 -- What does not cross as it is: a decision and a returned part, as numbers.
-use Rattle.std.specs.Prelude.{ℕ, ◌≤◌, ◌<◌, List, eqb, length, take, drop}
-use Rattle.rules.specs.General.{if◌then◌else◌}
+use Rattle.std.specs.Prelude.{if◌then◌else◌, ℕ, ◌≤◌, ◌<◌, List, eqb, length, take, drop}
 use Rattle.rules.specs.Numbers.{place_count, place_start}
 use Rattle.rules.specs.Places.{number_of, found_at}
 use Rattle.rules.specs.Delivery.{delivery}

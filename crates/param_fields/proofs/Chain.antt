@@ -1,4 +1,5 @@
 -- A field of two octets is what its octets say, one after the other.
+use Rattle.std.specs.Prelude.{if◌then◌else◌}
 use Prim.Native.Nat.{ℕ, ◌+◌, ◌*◌, ◌%◌, ◌≤◌, ◌<◌}
 use mathlib.Core.Path.{◌≡◌, refl, sym, ap, ◌∙◌}
 use mathlib.Core.Bool.{Bool, true, false, not}
@@ -7,7 +8,6 @@ use borrow.Author.Tests.{lt-ltb, le-ltb}
 use mathlib.Core.List.{List, [], ◌∷◌, ◌++◌}
 use lib.Dec.{eqb, leb, ltb}
 use lib.ListN.{length}
-use Rattle.rules.specs.General.{if◌then◌else◌}
 use Rattle.rules.specs.Refusals.{Check, ◌when◌, ◌blaming◌, judged_at}
 use Rattle.rules.specs.Registry.{kind_of}
 use Rattle.rules.specs.Layout.{octet, is_unsegmented, is_new, remaining_of, count3a, last_checks, is_padded, second_checks}

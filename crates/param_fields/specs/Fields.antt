@@ -1,6 +1,5 @@
 -- What each reader answers: its field, or the fault of the first check that applies there. The checks and the fields are the rules'.
-use Rattle.std.specs.Prelude.{ℕ, ◌+◌, Bool, true, List, eqb}
-use Rattle.rules.specs.General.{if◌then◌else◌}
+use Rattle.std.specs.Prelude.{if◌then◌else◌, ℕ, ◌+◌, Bool, true, List, eqb}
 use Rattle.rules.specs.Refusals.{judged_at}
 use Rattle.rules.specs.Registry.{kind_of}
 use Rattle.rules.specs.Layout.{octet, context_of, at2, is_new, remaining_of, reference_of, past_sequence, past_address, span_at, last_checks, context_checks, sequence_checks, address_checks}

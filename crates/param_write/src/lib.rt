@@ -1,9 +1,8 @@
 // Writing one parameter.
 #![tactic(auto)]
 
-ghost use Rattle.std.specs.Prelude.{◌≡◌, ◌+◌, ◌≤◌, ◌<◌, length};
+ghost use Rattle.std.specs.Prelude.{if◌then◌else◌, ◌≡◌, ◌+◌, ◌≤◌, ◌<◌, length};
 ghost use Rattle.octets.specs.Splice.{splice, Wrote};
-ghost use Rattle.rules.specs.General.{if◌then◌else◌};
 ghost use Rattle.rules.specs.Layout.{context_octets, address_octets, addresses_octets, parameter_octets};
 ghost use Rattle.param_write.specs.Writing.{Writable, control_octets};
 

@@ -1,10 +1,10 @@
 -- Each line's verdict, performed, leaves what the rule says of that line.
+use Rattle.std.specs.Prelude.{if◌then◌else◌}
 use Prim.Native.Nat.{ℕ, ◌+◌}
 use mathlib.Core.Path.{◌≡◌, refl}
 use mathlib.Core.Bool.{true}
 use mathlib.Core.List.{List}
 use lib.ListN.{length}
-use Rattle.rules.specs.General.{if◌then◌else◌}
 use Rattle.rules.specs.Records.{delivered, lost}
 use Rattle.rules.specs.Places.{free_place}
 use Rattle.rules.specs.Receiving.{longer, effect_of}

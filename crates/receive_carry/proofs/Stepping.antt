@@ -1,4 +1,5 @@
 -- What a verdict answers and saves, and what its place holds before and after it.
+use Rattle.std.specs.Prelude.{if◌then◌else◌}
 use Prim.Native.Nat.{ℕ, ◌≤◌}
 use mathlib.Core.Path.{◌≡◌, refl, ap, ◌∙◌}
 use mathlib.Core.Bool.{Bool, true, false}
@@ -7,7 +8,6 @@ use native.Mathlib.Omega.{arith}
 use lib.ListN.{get_or, set}
 use lib.Seq.{set-get_or}
 use Rattle.rules.specs.Refusals.{nowhere}
-use Rattle.rules.specs.General.{if◌then◌else◌}
 use Rattle.rules.specs.Numbers.{data_most, store_least}
 use Rattle.rules.specs.Places.{free_place, no_place, is_at, put_place}
 use Rattle.rules.specs.Receiving.{with_places}

@@ -1,8 +1,7 @@
 // The receiving lines judged: what each does with a segment. Nothing is written here.
 #![tactic(auto)]
 
-ghost use Rattle.std.specs.Prelude.{◌≡◌, List, ℕ, ◌+◌, ◌≤◌, length};
-ghost use Rattle.rules.specs.General.{if◌then◌else◌};
+ghost use Rattle.std.specs.Prelude.{if◌then◌else◌, ◌≡◌, List, ℕ, ◌+◌, ◌≤◌, length};
 ghost use Rattle.rules.specs.Numbers.{parameter_most, data_most, store_least};
 ghost use Rattle.rules.specs.Records.{delivered, lost};
 ghost use Rattle.rules.specs.Places.{free_place};

@@ -1,11 +1,11 @@
 -- The clock and the release by the number that `judge` answers: both judge 1 and 3 first, and the totals last.
+use Rattle.std.specs.Prelude.{if◌then◌else◌}
 use Prim.Native.Nat.{ℕ, ◌^◌}
 use mathlib.Core.Path.{◌≡◌, refl, ◌∙◌}
 use mathlib.Core.Bool.{Bool, true, false, not, ◌&&◌}
 use mathlib.Core.List.{List, [], ◌∷◌, ◌++◌}
 use lib.Dec.{eqb, leb, ltb}
 use lib.ListN.{length}
-use Rattle.rules.specs.General.{if◌then◌else◌}
 use Rattle.rules.specs.Numbers.{elapsed}
 use Rattle.rules.specs.Refusals.{Check, ◌when◌, first, judged}
 use Rattle.rules.specs.Soundness.{sound}

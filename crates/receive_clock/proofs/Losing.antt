@@ -1,4 +1,5 @@
 -- Billing what a sweep loses, place by place, and a sweep that loses nothing.
+use Rattle.std.specs.Prelude.{if◌then◌else◌}
 use Prim.Native.Nat.{ℕ, ◌+◌, ◌<◌, ◌≤◌}
 use mathlib.Core.Path.{◌≡◌, refl, sym, ◌∙◌}
 use mathlib.Core.Bool.{Bool, true, false, not, ◌&&◌}
@@ -6,7 +7,7 @@ use mathlib.Core.List.{List, [], ◌∷◌, ◌++◌, map}
 use native.Mathlib.Omega.{arith}
 use lib.ListN.{length, drop, get_or, drop_of_length-le}
 use Rattle.octets.proofs.Splice.{splice-nil}
-use Rattle.rules.specs.General.{if◌then◌else◌, those}
+use Rattle.rules.specs.General.{those}
 use Rattle.rules.specs.Numbers.{place_count}
 use Rattle.rules.specs.Refusals.{◌when◌, judged}
 use Rattle.rules.specs.Places.{no_place, first_from, is_at}

@@ -1,6 +1,5 @@
 -- A verdict, counted in a summary.
-use Rattle.std.specs.Prelude.{ℕ, ◌≡◌, Bool, true, ◌&&◌, List, ◌++◌, eqb}
-use Rattle.rules.specs.General.{if◌then◌else◌}
+use Rattle.std.specs.Prelude.{if◌then◌else◌, ℕ, ◌≡◌, Bool, true, ◌&&◌, List, ◌++◌, eqb}
 use Rattle.rules.specs.Refusals.{first}
 use Rattle.rules.specs.Summary.{row_for, tally, took, billed, column_of, room_in, row_checks, total_checks}
 use Rattle.rules.specs.declared.Key.{Key}

@@ -1,7 +1,6 @@
 -- What performing a verdict leaves of a store and a report area, and when that is what a rule leaves.
-use Rattle.std.specs.Prelude.{ℕ, ◌+◌, ◌≤◌, ◌≡◌, true, false, List, [], ◌∷◌, eqb, set}
+use Rattle.std.specs.Prelude.{if◌then◌else◌, ℕ, ◌+◌, ◌≤◌, ◌≡◌, true, false, List, [], ◌∷◌, eqb, set}
 use Rattle.octets.specs.Splice.{splice}
-use Rattle.rules.specs.General.{if◌then◌else◌}
 use Rattle.rules.specs.Numbers.{stretch_length, store_least}
 use Rattle.rules.specs.Records.{records_octets}
 use Rattle.rules.specs.Receiving.{save_at, record_with, Reception, with_places}

@@ -1,6 +1,5 @@
 -- What becomes of a segment that has been read.
-use Rattle.std.specs.Prelude.{ℕ, ◌≡◌, Bool, true, false, List, length, drop}
-use Rattle.rules.specs.General.{if◌then◌else◌}
+use Rattle.std.specs.Prelude.{if◌then◌else◌, ℕ, ◌≡◌, Bool, true, false, List, length, drop}
 use Rattle.rules.specs.Refusals.{nowhere, judged_at}
 use Rattle.rules.specs.Layout.{fields_of}
 use Rattle.rules.specs.Places.{place_of, lowest_free, place_at}

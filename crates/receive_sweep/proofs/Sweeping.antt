@@ -1,4 +1,5 @@
 -- Laws of a sweep: which places are done at turn i, and what those left still give.
+use Rattle.std.specs.Prelude.{if◌then◌else◌}
 use Prim.Native.Nat.{ℕ, zero, suc, ◌+◌, ◌*◌, ◌≤◌, ◌<◌}
 use mathlib.Core.Path.{◌≡◌, refl, sym, ap, ◌∙◌}
 use mathlib.Core.Bool.{Bool, true, false}
@@ -10,7 +11,7 @@ use lib.ListN.{length, drop, get_or, set, length-append, drop_of_length-le}
 use lib.Seq.{set-get_or}
 use Rattle.octets.specs.Splice.{splice, Wrote}
 use Rattle.octets.proofs.Splice.{splice-append, splice-length, splice-nil}
-use Rattle.rules.specs.General.{if◌then◌else◌, those}
+use Rattle.rules.specs.General.{those}
 use Rattle.rules.specs.Numbers.{place_count}
 use Rattle.rules.specs.Places.{no_place, free_place, first_from, is_at}
 use Rattle.rules.specs.Records.{record_length, records_octets}

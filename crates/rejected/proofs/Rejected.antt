@@ -1,5 +1,6 @@
 -- Every wrong machine breaks a demand, at a small trace: registry 01 00 03, 02 00 04; T 100; clock 0; association 9. A name without a number refutes the demand that
 -- the machine was made to break; one with a number refutes that demand too.
+use Rattle.std.specs.Prelude.{if◌then◌else◌}
 use Prim.Native.Nat.{ℕ, zero, suc, ◌<◌, ◌^◌}
 use native.Mathlib.Omega.{arith}
 use mathlib.Core.Path.{◌≡◌, refl, sym, ap}
@@ -7,7 +8,7 @@ use mathlib.Core.Bool.{Bool, true, false, true≢false}
 use mathlib.Core.List.{List, [], ◌∷◌, ◌++◌}
 use lib.ListN.{length, get_or, set, replicate, length-replicate}
 use Rattle.octets.specs.Splice.{splice}
-use Rattle.rules.specs.General.{if◌then◌else◌, every, those}
+use Rattle.rules.specs.General.{every, those}
 use Rattle.rules.specs.Numbers.{elapsed, store_least, place_count, address_most}
 use Rattle.rules.specs.Refusals.{Check, accepted}
 use Rattle.rules.specs.Layout.{fields_of, reading_checks, parameter_octets}

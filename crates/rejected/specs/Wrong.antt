@@ -1,8 +1,8 @@
 -- WRONG MACHINES. Each is ours but for one error, and breaks a demand: proofs/Rejected.antt.
-use Rattle.std.specs.Prelude.{ℕ, ◌+◌, ◌-◌, ◌%◌, Bool, true, false, not, ◌&&◌, List, [], ◌∷◌, ◌++◌, map, eqb, leb, ltb, length, take, drop, get_or, set, replicate}
+use Rattle.std.specs.Prelude.{if◌then◌else◌, ℕ, ◌+◌, ◌-◌, ◌%◌, Bool, true, false, not, ◌&&◌, List, [], ◌∷◌, ◌++◌, map, eqb, leb, ltb, length, take, drop, get_or, set, replicate}
 use Rattle.octets.specs.Number.{number}
 use Rattle.octets.specs.Splice.{splice}
-use Rattle.rules.specs.General.{if◌then◌else◌, every, those}
+use Rattle.rules.specs.General.{every, those}
 use Rattle.rules.specs.Numbers.{stretch_length, place_start, parameter_most}
 use Rattle.rules.specs.Refusals.{nowhere, Check, accepted, unplaced, judged_at}
 use Rattle.rules.specs.Registry.{kind_of}

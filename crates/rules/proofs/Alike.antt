@@ -1,4 +1,5 @@
 -- Document 02, A5: nothing behind the blamed octet matters, for the refusals that are settled there.
+use Rattle.std.specs.Prelude.{if◌then◌else◌}
 use Prim.Native.Nat.{ℕ, ◌+◌, ◌*◌, ◌%◌, ◌≤◌, ◌<◌}
 use mathlib.Core.Path.{◌≡◌, refl, sym, ap, ◌∙◌}
 use mathlib.Core.Bool.{Bool, true, false, cond, true≢false}
@@ -8,7 +9,6 @@ use borrow.Author.Tests.{ltb-true, ltb-false, leb-true, leb-false, le-ltb, ne_eq
 use lib.Dec.{eqb, leb, ltb}
 use lib.ListN.{length, length-take}
 use lib.Seq.{get_or-take}
-use Rattle.rules.specs.General.{if◌then◌else◌}
 use Rattle.rules.specs.Numbers.{parameter_most}
 use Rattle.rules.specs.Refusals.{Check, ◌when◌, ◌for◌over◌, ◌blaming◌, first, first_at, fault}
 use Rattle.rules.specs.Registry.{kind_of}

@@ -1,11 +1,12 @@
 -- Open places with different keys: of any two in a list, and after one of them has been put anew.
+use Rattle.std.specs.Prelude.{if◌then◌else◌}
 use Prim.Native.Nat.{ℕ, zero, suc, ◌<◌}
 use mathlib.Core.Path.{◌≡◌, refl, sym, ap, ◌∙◌}
 use mathlib.Core.Bool.{Bool, true, false, not, ◌&&◌, and-eq-true_iff}
 use mathlib.Core.List.{List, [], ◌∷◌, map}
 use native.Mathlib.Omega.{arith}
 use lib.ListN.{length, get_or, set}
-use Rattle.rules.specs.General.{if◌then◌else◌, every, every_two}
+use Rattle.rules.specs.General.{every, every_two}
 use Rattle.rules.specs.Places.{same_key, is_open, holds, no_place, free_place}
 use Rattle.rules.specs.Soundness.{places_apart}
 use Rattle.rules.specs.Sweep.{freed_by}

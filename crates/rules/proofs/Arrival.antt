@@ -1,5 +1,6 @@
 -- An arrival is two calls: the clock's, and the segment's rule at what that leaves. A refusal of the segment's part leaves what the clock's call leaves; at the table's own time an arrival
 -- is the segment's rule.
+use Rattle.std.specs.Prelude.{if◌then◌else◌}
 use Prim.Native.Nat.{ℕ, suc, ◌+◌, ◌-◌, ◌*◌, ◌≤◌, ◌^◌}
 use mathlib.Core.Path.{◌≡◌, refl, sym, ap, ◌∙◌}
 use mathlib.Core.Bool.{Bool, true, false, and-eq-true_iff, true≢false}
@@ -9,7 +10,7 @@ use native.Mathlib.Omega.{arith}
 use borrow.Author.Tests.{ltb-false, le-ltb, not-true, not-false}
 use lib.ListN.{length, length-drop, take-append-drop}
 use Rattle.octets.proofs.Splice.{splice-length, splice-nil}
-use Rattle.rules.specs.General.{if◌then◌else◌, those}
+use Rattle.rules.specs.General.{those}
 use Rattle.rules.specs.Numbers.{store_least, place_count, elapsed}
 use Rattle.rules.specs.Refusals.{Check, accepted, first, fault, unplaced, judged_at}
 use Rattle.rules.specs.Layout.{reading_checks}

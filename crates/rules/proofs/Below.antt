@@ -1,4 +1,5 @@
 -- Laws on tests over the numbers below a bound.
+use Rattle.std.specs.Prelude.{if◌then◌else◌}
 use Prim.Native.Nat.{ℕ, zero, suc, ◌+◌, ◌<◌}
 use mathlib.Core.Path.{◌≡◌, refl, sym, ◌∙◌}
 use mathlib.Core.Bool.{Bool, true, false, ◌&&◌, and-false, and-eq-true_iff}
@@ -6,7 +7,6 @@ use native.Mathlib.Omega.{arith}
 use native.Mathlib.Numerals.{add-one}
 use borrow.Author.Tests.{eqb-true, eqb-false}
 use lib.Dec.{eqb}
-use Rattle.rules.specs.General.{if◌then◌else◌}
 use Rattle.rules.specs.Places.{is_at}
 use Rattle.rules.specs.Summary.{every_below, first_below, or_else}
 use Rattle.rules.specs.declared.Found.{Found}

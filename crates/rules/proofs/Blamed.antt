@@ -1,4 +1,5 @@
 -- Document 02, A5: what the position of a reading refusal tells.
+use Rattle.std.specs.Prelude.{if◌then◌else◌}
 use Prim.Native.Nat.{ℕ, ◌+◌, ◌≤◌, ◌<◌}
 use mathlib.Core.Path.{◌≡◌, refl, sym, ap, ◌∙◌}
 use mathlib.Core.Bool.{Bool, true, false, cond, true≢false}
@@ -8,7 +9,6 @@ use native.Mathlib.Omega.{arith}
 use borrow.Author.Tests.{ltb-true, ltb-false}
 use lib.Dec.{eqb, ltb}
 use lib.ListN.{length}
-use Rattle.rules.specs.General.{if◌then◌else◌}
 use Rattle.rules.specs.Numbers.{parameter_most, address_most}
 use Rattle.rules.specs.Refusals.{Check, ◌when◌, ◌blaming◌, accepted, fault, unplaced}
 use Rattle.rules.specs.Registry.{kind_of}

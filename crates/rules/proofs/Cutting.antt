@@ -1,4 +1,5 @@
 -- What a sending that is accepted says of its segments: how many there are, what each carries and that each fits its room.
+use Rattle.std.specs.Prelude.{if◌then◌else◌}
 use Prim.Native.Nat.{ℕ, zero, suc, ◌+◌, ◌-◌, ◌*◌, ◌/◌, ◌≤◌, ◌<◌}
 use mathlib.Core.Path.{◌≡◌, refl, ap, ◌∙◌}
 use mathlib.Core.Bool.{Bool, true, false, not, ◌&&◌, ◌||◌, and-eq-true_iff}
@@ -11,7 +12,7 @@ use lib.Dec.{eqb, ltb}
 use lib.ListN.{length, take, length-append, length-take}
 use lib.Seq.{take_all, take-add}
 use Rattle.octets.proofs.Number.{empty}
-use Rattle.rules.specs.General.{if◌then◌else◌, every}
+use Rattle.rules.specs.General.{every}
 use Rattle.rules.specs.Refusals.{accepted}
 use Rattle.rules.specs.Registry.{kind_of, is_usable}
 use Rattle.rules.specs.Layout.{is_unsegmented, sequence_octets, context_octets, addresses_octets, parameter_octets}

@@ -1,4 +1,5 @@
 -- What a tally, a seat and a bill do to a summary's numbers, and whether the totals then fit.
+use Rattle.std.specs.Prelude.{if◌then◌else◌}
 use Prim.Native.Nat.{ℕ, ◌+◌, ◌*◌, ◌-◌, ◌<◌, ◌≤◌, ◌^◌}
 use mathlib.Core.Path.{◌≡◌, refl, sym, ap, ◌∙◌}
 use mathlib.Core.Bool.{Bool, true, false, ◌&&◌, ◌||◌, and-true, and-false, and-eq-true_iff}
@@ -8,7 +9,6 @@ use borrow.Author.Tests.{eqb-true, eqb-false, eq-eqb, ne_eqb, leb-true, leb-fals
 use lib.Dec.{eqb, leb}
 use lib.ListN.{length, get_or, set, length-set}
 use lib.Seq.{get_or-set_same, get_or-set_other}
-use Rattle.rules.specs.General.{if◌then◌else◌}
 use Rattle.rules.specs.Records.{delivered}
 use Rattle.rules.specs.Summary.{total_count, total_most, total_fits, fits, number_at, tally, seat, row_of, row_for, took_at, took, column_of, bill_at, bill, billed, room_in}
 use Rattle.rules.specs.declared.Found.{Found}

@@ -1,10 +1,10 @@
 -- The numbers of a segment's checks: of reading, 4 to 9 and 23. None is 0, so that 0 says that none applies.
+use Rattle.std.specs.Prelude.{if◌then◌else◌}
 use Prim.Native.Nat.{ℕ, ◌+◌, ◌≤◌}
 use mathlib.Core.Path.{◌≡◌, refl}
 use mathlib.Core.Bool.{Bool, true, false}
 use mathlib.Core.List.{List, [], ◌++◌}
 use native.Mathlib.Omega.{arith}
-use Rattle.rules.specs.General.{if◌then◌else◌}
 use Rattle.rules.specs.Refusals.{Check, accepted, first}
 use Rattle.rules.specs.Layout.{has1a, has3a, octet, at2, at3, has_addresses, origin_at, past_address, context_of, last_checks, second_checks, context_checks, sequence_checks, address_checks, addresses_checks, reading_checks}
 use Rattle.rules.specs.Registry.{kind_of}

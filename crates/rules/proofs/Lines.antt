@@ -1,11 +1,11 @@
 -- Which line applies to a segment: what holds of each line where the tests lead to it holds of the line that applies.
+use Rattle.std.specs.Prelude.{if◌then◌else◌}
 use Prim.Native.Nat.{ℕ, ◌+◌, ◌≤◌, ◌<◌}
 use mathlib.Core.Path.{◌≡◌, refl}
 use mathlib.Core.Bool.{Bool, true, false, not, ◌&&◌}
 use native.Mathlib.Omega.{arith}
 use borrow.Author.Tests.{ltb-true, ltb-false, eqb-true, eqb-false}
 use lib.Dec.{eqb, ltb}
-use Rattle.rules.specs.General.{if◌then◌else◌}
 use Rattle.rules.specs.Numbers.{data_most}
 use Rattle.rules.specs.Receiving.{line_of}
 use Rattle.rules.specs.declared.Heading.{Heading}

@@ -1,4 +1,5 @@
 -- A segment changes at most its own place's entry in the table, and of the store only the octets of the newly saved information.
+use Rattle.std.specs.Prelude.{if◌then◌else◌}
 use Prim.Native.Nat.{ℕ, suc, ◌+◌, ◌≤◌, ◌<◌}
 use mathlib.Core.Path.{◌≡◌, refl, sym, ◌∙◌}
 use mathlib.Core.Bool.{Bool, true, false}
@@ -8,7 +9,6 @@ use lib.ListN.{length, get_or, set, length-set, length-drop}
 use lib.Seq.{get_or-set_other}
 use Rattle.octets.specs.Splice.{splice}
 use Rattle.octets.proofs.Splice.{splice-length}
-use Rattle.rules.specs.General.{if◌then◌else◌}
 use Rattle.rules.specs.Numbers.{parameter_most, stretch_length, place_start}
 use Rattle.rules.specs.Refusals.{accepted}
 use Rattle.rules.specs.Layout.{fields_of}

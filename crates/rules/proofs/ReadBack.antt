@@ -1,4 +1,5 @@
 -- What is written is read back: a parameter over any heading, and so each segment of a sending that is accepted.
+use Rattle.std.specs.Prelude.{if◌then◌else◌}
 use Prim.Native.Nat.{ℕ, ◌+◌, ◌*◌, ◌/◌, ◌%◌, ◌≤◌, ◌<◌}
 use mathlib.Core.Path.{◌≡◌, refl, sym, ap, ◌∙◌}
 use mathlib.Core.Bool.{Bool, true, false, and-eq-true_iff}
@@ -9,7 +10,6 @@ use borrow.Author.Tests.{ltb-true, ltb-false, eqb-true, eqb-false, le-ltb, le-le
 use lib.Dec.{eqb, ltb}
 use lib.ListN.{length, take, drop, length-append, length-drop}
 use lib.Seq.{get_or-drop, drop-drop, take-append_seam, drop-append_seam}
-use Rattle.rules.specs.General.{if◌then◌else◌}
 use Rattle.rules.specs.Numbers.{parameter_most}
 use Rattle.rules.specs.Refusals.{Check, ◌for◌over◌, accepted}
 use Rattle.rules.specs.Registry.{kind_of}

@@ -1,4 +1,5 @@
 -- What a parameter that is read keeps to.
+use Rattle.std.specs.Prelude.{if◌then◌else◌}
 use Prim.Native.Nat.{ℕ, ◌+◌, ◌%◌, ◌≤◌}
 use mathlib.Core.Path.{◌≡◌, refl}
 use mathlib.Core.Bool.{Bool, true, false, not, and-eq-true_iff}
@@ -7,7 +8,6 @@ use native.Mathlib.Omega.{arith}
 use borrow.Author.Tests.{ltb-false, eqb-false, not-true}
 use lib.Dec.{eqb}
 use lib.ListN.{length}
-use Rattle.rules.specs.General.{if◌then◌else◌}
 use Rattle.rules.specs.Numbers.{parameter_most, address_most, reference_most}
 use Rattle.rules.specs.Refusals.{Check, ◌when◌, ◌for◌over◌, ◌for◌unlike◌, ◌blaming◌, accepted}
 use Rattle.rules.specs.Registry.{kind_of}

@@ -1,4 +1,5 @@
 -- The octets of a registry, record by record: how many entries they list, which they are, what unused entries leave alone; and the opening by them.
+use Rattle.std.specs.Prelude.{if◌then◌else◌}
 use Prim.Native.Nat.{ℕ, zero, suc, ◌+◌, ◌-◌, ◌/◌, ◌%◌, ◌<◌, ◌≤◌}
 use mathlib.Core.Path.{◌≡◌, refl, ◌∙◌}
 use mathlib.Core.Bool.{Bool, true, false, not, ◌&&◌, ◌||◌, and-eq-true_iff}
@@ -10,7 +11,7 @@ use lib.Dec.{eqb, leb}
 use lib.ListN.{length, get_or, take, drop, replicate, length-append, length-replicate}
 use lib.Seq.{sets, sets-eq, take_at}
 use Rattle.octets.specs.Number.{number}
-use Rattle.rules.specs.General.{if◌then◌else◌, every, every_two}
+use Rattle.rules.specs.General.{every, every_two}
 use Rattle.rules.specs.Numbers.{entries_most, timer_in_range}
 use Rattle.rules.specs.Refusals.{◌when◌, judged}
 use Rattle.rules.specs.Registry.{entries_of, is_cut, is_unused, is_entry, entries_apart, lists_registry}

@@ -1,4 +1,5 @@
 -- A sound summary stays sound through what a call counts, and an association that has a row keeps it.
+use Rattle.std.specs.Prelude.{if◌then◌else◌}
 use Prim.Native.Nat.{ℕ, ◌+◌, ◌*◌, ◌≤◌, ◌<◌}
 use mathlib.Core.Path.{◌≡◌, refl, sym, ◌∙◌}
 use mathlib.Core.Bool.{Bool, true, false, not, ◌&&◌, ◌||◌, and-eq-true_iff, true≢false}
@@ -8,7 +9,7 @@ use borrow.Author.Tests.{eqb-true, eqb-false, eq-eqb, ne_eqb, ltb-true, ltb-fals
 use lib.Dec.{eqb, leb, ltb}
 use lib.ListN.{length, set, length-set}
 use lib.Seq.{get_or-set_same, get_or-set_other}
-use Rattle.rules.specs.General.{if◌then◌else◌, every}
+use Rattle.rules.specs.General.{every}
 use Rattle.rules.specs.Places.{free_place, is_open, is_at}
 use Rattle.rules.specs.Sweep.{freed_by}
 use Rattle.rules.specs.Summary.{every_below, every_pair, or_else, row_count, number_at, is_used, is_unused, is_for, row_of, unused_row, row_for, row_sound, rows_apart, is_seated, summary_sound}

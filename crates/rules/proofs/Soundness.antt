@@ -1,4 +1,5 @@
 -- What soundness asks of an open place, of a key and of a table, in parts.
+use Rattle.std.specs.Prelude.{if◌then◌else◌}
 use Prim.Native.Nat.{ℕ, zero, suc, ◌+◌, ◌≤◌, ◌<◌}
 use mathlib.Core.Path.{◌≡◌, refl}
 use mathlib.Core.Bool.{Bool, true, false, not, ◌&&◌, ◌||◌, and-eq-true_iff, or-true}
@@ -7,7 +8,7 @@ use borrow.Author.Tests.{leb-true, ltb-true, eqb-true, eqb-false, ne_eqb, le-leb
 use native.Mathlib.Omega.{arith}
 use lib.Dec.{eqb}
 use lib.ListN.{take, drop, replicate}
-use Rattle.rules.specs.General.{if◌then◌else◌, every, every_two}
+use Rattle.rules.specs.General.{every, every_two}
 use Rattle.rules.specs.Numbers.{timer_in_range, reference_most, instruction_most, segments_most, data_most, address_most, elapsed}
 use Rattle.rules.specs.Registry.{kind_of, registry_sound}
 use Rattle.rules.specs.Layout.{octet, has_addresses, span_at}

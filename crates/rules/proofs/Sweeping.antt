@@ -1,11 +1,12 @@
 -- What a sweep leaves is sound, and a sound table has nothing due at its own time.
+use Rattle.std.specs.Prelude.{if◌then◌else◌}
 use Prim.Native.Nat.{ℕ}
 use mathlib.Core.Path.{◌≡◌, refl}
 use mathlib.Core.Bool.{Bool, true, false, ◌&&◌, and-eq-true_iff}
 use mathlib.Core.List.{List, [], ◌∷◌}
 use borrow.Author.Tests.{leb-false, lt-leb}
 use lib.Dec.{leb}
-use Rattle.rules.specs.General.{if◌then◌else◌, every, those}
+use Rattle.rules.specs.General.{every, those}
 use Rattle.rules.specs.Numbers.{elapsed}
 use Rattle.rules.specs.Places.{free_place, is_open}
 use Rattle.rules.specs.Soundness.{open_sound, place_sound, sound}

@@ -1,6 +1,5 @@
 -- Section 'Receiving', the delivery: a part of the parameter or a part of the store, according to the answer.
-use Rattle.std.specs.Prelude.{ℕ, ◌+◌, ◌&&◌, List, [], leb, ltb, length, take, drop}
-use Rattle.rules.specs.General.{if◌then◌else◌}
+use Rattle.std.specs.Prelude.{if◌then◌else◌, ℕ, ◌+◌, ◌&&◌, List, [], leb, ltb, length, take, drop}
 use Rattle.rules.specs.Numbers.{place_count, stretch_length, place_start}
 use Rattle.rules.specs.declared.Part.TheVariants.{OfParameter, OfStore}
 use Rattle.rules.specs.declared.Decision.{Decision}

@@ -1,6 +1,5 @@
 -- Section 'Layout of a segment'. s is a parameter's octets, x one of them; a position counts from 0.
-use Rattle.std.specs.Prelude.{ℕ, ◌+◌, ◌*◌, ◌/◌, ◌%◌, Bool, not, ◌&&◌, List, [], ◌∷◌, ◌++◌, eqb, leb, ltb, length, take, get_or}
-use Rattle.rules.specs.General.{if◌then◌else◌}
+use Rattle.std.specs.Prelude.{if◌then◌else◌, ℕ, ◌+◌, ◌*◌, ◌/◌, ◌%◌, Bool, not, ◌&&◌, List, [], ◌∷◌, ◌++◌, eqb, leb, ltb, length, take, get_or}
 use Rattle.rules.specs.Numbers.{parameter_most, address_most}
 use Rattle.rules.specs.Refusals.{Check, ◌when◌, ◌for◌over◌, ◌for◌under◌, ◌for◌unlike◌, ◌blaming◌}
 use Rattle.rules.specs.Registry.{kind_of}

@@ -1,6 +1,5 @@
 -- What the program replay prints: a line for each event, and `stop` where the trace stops.
-use Rattle.std.specs.Prelude.{ℕ, zero, suc, ◌+◌, ◌/◌, ◌%◌, ◌^◌, Bool, List, [], ◌∷◌, ◌++◌, eqb, ltb}
-use Rattle.rules.specs.General.{if◌then◌else◌}
+use Rattle.std.specs.Prelude.{if◌then◌else◌, ℕ, zero, suc, ◌+◌, ◌/◌, ◌%◌, ◌^◌, Bool, List, [], ◌∷◌, ◌++◌, eqb, ltb}
 use Rattle.rules.specs.Refusals.{nowhere}
 use Rattle.rules.specs.Records.{delivered, lost, records_from}
 use Rattle.rules.specs.Calls.{Answer}

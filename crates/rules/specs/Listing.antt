@@ -1,6 +1,5 @@
 -- What the program records prints: for each event replay's fields, its number and its decision; and a line for each record, for what an opening drops and for what is held at the end.
-use Rattle.std.specs.Prelude.{ℕ, ◌+◌, ◌/◌, ◌%◌, List, [], ◌∷◌, ◌++◌, eqb, ltb, take}
-use Rattle.rules.specs.General.{if◌then◌else◌}
+use Rattle.std.specs.Prelude.{if◌then◌else◌, ℕ, ◌+◌, ◌/◌, ◌%◌, List, [], ◌∷◌, ◌++◌, eqb, ltb, take}
 use Rattle.rules.specs.Records.{delivered}
 use Rattle.rules.specs.Places.{is_open}
 use Rattle.rules.specs.Sweep.{losses_by}

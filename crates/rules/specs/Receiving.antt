@@ -1,7 +1,6 @@
 -- Section 'Receiving'.
-use Rattle.std.specs.Prelude.{ℕ, ◌+◌, Bool, true, false, not, ◌&&◌, List, [], ◌∷◌, ◌++◌, eqb, ltb, length, take, drop}
+use Rattle.std.specs.Prelude.{if◌then◌else◌, ℕ, ◌+◌, Bool, true, false, not, ◌&&◌, List, [], ◌∷◌, ◌++◌, eqb, ltb, length, take, drop}
 use Rattle.octets.specs.Splice.{splice}
-use Rattle.rules.specs.General.{if◌then◌else◌}
 use Rattle.rules.specs.Numbers.{data_most, store_least, place_start}
 use Rattle.rules.specs.Refusals.{Check, ◌when◌, ◌for◌under◌, judged_at, nowhere}
 use Rattle.rules.specs.Layout.{is_unsegmented, fields_of, reading_checks}

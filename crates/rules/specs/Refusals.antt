@@ -1,6 +1,5 @@
 -- Section 'Refusal numbers': how a call finds its number, and reading the octet at fault. Each call has its own list, in the paper's order.
-use Rattle.std.specs.Prelude.{ℕ, Bool, true, not, ◌&&◌, List, [], ◌∷◌, eqb, ltb}
-use Rattle.rules.specs.General.{if◌then◌else◌}
+use Rattle.std.specs.Prelude.{if◌then◌else◌, ℕ, Bool, true, not, ◌&&◌, List, [], ◌∷◌, eqb, ltb}
 use Rattle.rules.specs.declared.Fault.{Fault}
 
 -- the position of no octet: a parameter has fewer

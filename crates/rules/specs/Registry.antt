@@ -1,7 +1,7 @@
 -- The registry: registered contexts and their kinds, 1 of 1998 and 2 of 2000.
-use Rattle.std.specs.Prelude.{ℕ, Bool, true, false, not, ◌&&◌, ◌||◌, List, [], ◌∷◌, eqb, leb, length}
+use Rattle.std.specs.Prelude.{if◌then◌else◌, ℕ, Bool, true, false, not, ◌&&◌, ◌||◌, List, [], ◌∷◌, eqb, leb, length}
 use Rattle.octets.specs.Number.{number}
-use Rattle.rules.specs.General.{if◌then◌else◌, every, every_two}
+use Rattle.rules.specs.General.{every, every_two}
 use Rattle.rules.specs.Numbers.{entries_most, context_in_range}
 use Rattle.rules.specs.declared.Entry.{Entry}
 

@@ -1,7 +1,6 @@
 -- Section 'Sending'. o and d are the originating and the destination address.
-use Rattle.std.specs.Prelude.{ℕ, zero, suc, ◌+◌, ◌-◌, ◌*◌, ◌/◌, Bool, not, ◌&&◌, ◌||◌, List, [], ◌∷◌, ◌++◌, eqb, leb, ltb, length, take, drop}
+use Rattle.std.specs.Prelude.{if◌then◌else◌, ℕ, zero, suc, ◌+◌, ◌-◌, ◌*◌, ◌/◌, Bool, not, ◌&&◌, ◌||◌, List, [], ◌∷◌, ◌++◌, eqb, leb, ltb, length, take, drop}
 use Rattle.octets.specs.Splice.{splice}
-use Rattle.rules.specs.General.{if◌then◌else◌}
 use Rattle.rules.specs.Numbers.{data_most, segments_most, parameter_most, address_most, reference_most, instruction_most}
 use Rattle.rules.specs.Refusals.{Check, ◌when◌, ◌for◌over◌, ◌for◌under◌, judged}
 use Rattle.rules.specs.Registry.{kind_of}

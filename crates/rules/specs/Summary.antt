@@ -1,7 +1,7 @@
 -- Document 02, A1: totals for each lessee, kept beside the table in a summary of 512 numbers. They are 64 rows of eight, and stand column by column: all rows' marks, all rows'
 -- associations, then the totals, segments and octets of each: taken, delivered, lost.
-use Rattle.std.specs.Prelude.{ℕ, zero, suc, ◌+◌, ◌*◌, ◌^◌, Bool, true, not, ◌&&◌, ◌||◌, List, [], ◌∷◌, ◌++◌, eqb, leb, length, get_or, set, replicate}
-use Rattle.rules.specs.General.{if◌then◌else◌, every}
+use Rattle.std.specs.Prelude.{if◌then◌else◌, ℕ, zero, suc, ◌+◌, ◌*◌, ◌^◌, Bool, true, not, ◌&&◌, ◌||◌, List, [], ◌∷◌, ◌++◌, eqb, leb, length, get_or, set, replicate}
+use Rattle.rules.specs.General.{every}
 use Rattle.rules.specs.Refusals.{Check, ◌when◌, judged, judged_at}
 use Rattle.rules.specs.Layout.{fields_of}
 use Rattle.rules.specs.Records.{delivered}

@@ -1,7 +1,7 @@
 -- Section 'Receiving', the clock and the release: both lose every sequence that a test is for, in place order.
-use Rattle.std.specs.Prelude.{ℕ, ◌-◌, ◌*◌, ◌^◌, Bool, not, ◌&&◌, List, [], ◌∷◌, ◌++◌, map, eqb, leb, length}
+use Rattle.std.specs.Prelude.{if◌then◌else◌, ℕ, ◌-◌, ◌*◌, ◌^◌, Bool, not, ◌&&◌, List, [], ◌∷◌, ◌++◌, map, eqb, leb, length}
 use Rattle.octets.specs.Splice.{splice}
-use Rattle.rules.specs.General.{if◌then◌else◌, those}
+use Rattle.rules.specs.General.{those}
 use Rattle.rules.specs.Numbers.{place_count, elapsed}
 use Rattle.rules.specs.Refusals.{Check, ◌when◌, ◌for◌over◌, ◌for◌under◌}
 use Rattle.rules.specs.Records.{record_length, records_octets, lost}

@@ -1,6 +1,5 @@
 -- What the program totals prints: for each opening a heading, and under it, when the next one empties the rows or the trace ends, a line for each used row.
-use Rattle.std.specs.Prelude.{ℕ, zero, suc, List, [], ◌∷◌, ◌++◌}
-use Rattle.rules.specs.General.{if◌then◌else◌}
+use Rattle.std.specs.Prelude.{if◌then◌else◌, ℕ, zero, suc, List, [], ◌∷◌, ◌++◌}
 use Rattle.rules.specs.Summary.{number_at, is_used}
 use Rattle.rules.specs.Trace.{is_opening, Observer, watching}
 use Rattle.rules.specs.Lines.{decimal, field, stop_if, counted}

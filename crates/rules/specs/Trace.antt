@@ -1,7 +1,6 @@
 -- A trace, record by record, and what an observer prints of it. The observers: Lines (replay), Listing (records).
-use Rattle.std.specs.Prelude.{ℕ, zero, suc, Bool, true, false, ◌&&◌, ◌||◌, List, [], ◌∷◌, ◌++◌, eqb, leb, length, take, drop, replicate}
+use Rattle.std.specs.Prelude.{if◌then◌else◌, ℕ, zero, suc, Bool, true, false, ◌&&◌, ◌||◌, List, [], ◌∷◌, ◌++◌, eqb, leb, length, take, drop, replicate}
 use Rattle.octets.specs.Number.{number}
-use Rattle.rules.specs.General.{if◌then◌else◌}
 use Rattle.rules.specs.Numbers.{store_least}
 use Rattle.rules.specs.Layout.{octet}
 use Rattle.rules.specs.Arrival.{arrival_least}

@@ -1,6 +1,5 @@
 -- Where data is cut, by the lengths of what is cut.
-use Rattle.std.specs.Prelude.{ℕ, zero, suc, ◌+◌, ◌-◌, ◌*◌, ◌/◌, ◌≤◌, ◌<◌, ◌≡◌, true, false, [], ◌∷◌, leb, ltb}
-use Rattle.rules.specs.General.{if◌then◌else◌}
+use Rattle.std.specs.Prelude.{if◌then◌else◌, ℕ, zero, suc, ◌+◌, ◌-◌, ◌*◌, ◌/◌, ◌≤◌, ◌<◌, ◌≡◌, true, false, [], ◌∷◌, leb, ltb}
 use Rattle.rules.specs.Numbers.{segments_most}
 use Rattle.rules.specs.Refusals.{◌when◌, ◌for◌over◌, judged}
 use Rattle.rules.specs.Layout.{has_addresses}

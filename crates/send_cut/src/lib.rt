@@ -1,8 +1,7 @@
 // Where data is cut into segments: the octets of a header, and the piece of the data that each segment carries.
 #![tactic(auto)]
 
-ghost use Rattle.std.specs.Prelude.{◌≡◌, ◌≤◌, ◌<◌, ltb};
-ghost use Rattle.rules.specs.General.{if◌then◌else◌};
+ghost use Rattle.std.specs.Prelude.{if◌then◌else◌, ◌≡◌, ◌≤◌, ◌<◌, ltb};
 ghost use Rattle.send_cut.specs.Plan.{header_for, plan_of, segments_plan, piece_from, piece_size, CutPossible};
 
 use rules::{Context, Request};

@@ -1,4 +1,5 @@
 -- The sender's steps, one after the other, are the rule of sending.
+use Rattle.std.specs.Prelude.{if◌then◌else◌}
 use Prim.Native.Nat.{ℕ, zero, suc, ◌+◌, ◌-◌, ◌≤◌, ◌<◌}
 use mathlib.Core.Path.{◌≡◌, refl, sym, ap, ◌∙◌}
 use mathlib.Core.Bool.{Bool, true, false, and-eq-true_iff, true≢false}
@@ -9,7 +10,6 @@ use lib.Dec.{eqb, ltb}
 use lib.ListN.{length, take, drop, length-append, length-take, length-drop}
 use lib.Seq.{take_all}
 use Rattle.octets.specs.Splice.{splice}
-use Rattle.rules.specs.General.{if◌then◌else◌}
 use Rattle.rules.specs.Refusals.{Check, ◌for◌under◌, accepted, first, judged}
 use Rattle.rules.specs.Registry.{kind_of}
 use Rattle.rules.specs.Layout.{is_unsegmented, has_addresses, context_octets, sequence_octets, addresses_octets, parameter_octets}

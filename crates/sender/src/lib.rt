@@ -1,8 +1,7 @@
 // Sending: data cut into segments, one segment a call.
 #![tactic(auto)]
 
-ghost use Rattle.std.specs.Prelude.{◌≡◌, ◌≤◌};
-ghost use Rattle.rules.specs.General.{if◌then◌else◌};
+ghost use Rattle.std.specs.Prelude.{if◌then◌else◌, ◌≡◌, ◌≤◌};
 ghost use Rattle.rules.specs.Refusals.{first};
 ghost use Rattle.rules.specs.Promises.{OfSending};
 ghost use Rattle.rules.specs.Layout.{is_unsegmented};

@@ -1,9 +1,10 @@
 -- Digests of the open places: where they differ the keys do.
+use Rattle.std.specs.Prelude.{if◌then◌else◌}
 use mathlib.Core.Path.{◌≡◌, refl, sym, ap, ◌∙◌}
 use mathlib.Core.Bool.{Bool, true, false, not, ◌&&◌, and-eq-true_iff, true≢false}
 use mathlib.Core.List.{List, [], ◌∷◌, map}
 use borrow.Author.Tests.{eq-eqb}
-use Rattle.rules.specs.General.{if◌then◌else◌, every, every_two, those}
+use Rattle.rules.specs.General.{every, every_two, those}
 use Rattle.rules.specs.Places.{is_open, same_key}
 use Rattle.rules.specs.Soundness.{places_apart}
 use Rattle.rules.specs.declared.Place.{Place}

@@ -1,9 +1,10 @@
 -- A summary is sound beside the places of a table where it is beside the associations of the open ones.
+use Rattle.std.specs.Prelude.{if◌then◌else◌}
 use Prim.Native.Nat.{ℕ}
 use mathlib.Core.Path.{◌≡◌, refl, ap}
 use mathlib.Core.Bool.{Bool, true, false, not, ◌&&◌, ◌||◌}
 use mathlib.Core.List.{List, [], ◌∷◌, map}
-use Rattle.rules.specs.General.{if◌then◌else◌, every, those}
+use Rattle.rules.specs.General.{every, those}
 use Rattle.rules.specs.Places.{is_open}
 use Rattle.rules.specs.Summary.{is_seated, summary_sound}
 use Rattle.rules.specs.declared.Place.{Place}

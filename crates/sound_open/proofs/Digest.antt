@@ -1,4 +1,5 @@
 -- What is noted of the open places, packed one by one.
+use Rattle.std.specs.Prelude.{if◌then◌else◌}
 use Prim.Native.Nat.{ℕ, ◌+◌, ◌<◌, ◌≤◌}
 use mathlib.Core.Path.{◌≡◌, sym, ap, ◌∙◌}
 use mathlib.Core.Bool.{Bool, true, false, ◌&&◌, and-true}
@@ -7,7 +8,7 @@ use native.Mathlib.Omega.{arith}
 use native.Mathlib.Numerals.{add-one}
 use lib.ListN.{length, take, drop, set, get_or, length-set, drop_of_length-le}
 use lib.Seq.{take-suc-set}
-use Rattle.rules.specs.General.{if◌then◌else◌, every, those}
+use Rattle.rules.specs.General.{every, those}
 use Rattle.rules.specs.Places.{is_open, no_place}
 use Rattle.rules.specs.Soundness.{open_sound}
 use Rattle.rules.specs.declared.Entry.{Entry}

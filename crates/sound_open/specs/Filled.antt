@@ -1,6 +1,5 @@
 -- The largest number of so many octets.
-use Rattle.std.specs.Prelude.{ℕ, zero, suc, ◌+◌, ◌*◌, ltb}
-use Rattle.rules.specs.General.{if◌then◌else◌}
+use Rattle.std.specs.Prelude.{if◌then◌else◌, ℕ, zero, suc, ◌+◌, ◌*◌, ltb}
 
 abbrev pub most_of : ℕ → ℕ
 most_of zero = 0

@@ -1,4 +1,5 @@
 -- How many rows are used: the sum of marks that are sound, and what is known of the rest once some were met.
+use Rattle.std.specs.Prelude.{if◌then◌else◌}
 use Prim.Native.Nat.{ℕ, zero, suc, ◌+◌, ◌<◌, ◌≤◌, ◌%◌}
 use mathlib.Core.Path.{◌≡◌, refl, sym, ap, ◌∙◌}
 use mathlib.Core.Bool.{Bool, true, false, and-eq-true_iff}
@@ -7,7 +8,6 @@ use native.Mathlib.Omega.{arith}
 use native.Mathlib.Numerals.{add-one}
 use borrow.Author.Tests.{eqb-true, eqb-false, leb-true}
 use lib.ListN.{length}
-use Rattle.rules.specs.General.{if◌then◌else◌}
 use Rattle.rules.specs.Summary.{every_below, number_at, is_used}
 use Rattle.sound_rows.specs.Listing.{of_those, back}
 use Rattle.sound_rows.proofs.Sound.{mark_sound}

@@ -1,4 +1,5 @@
 -- Rows that are used from the first on, and then none.
+use Rattle.std.specs.Prelude.{if◌then◌else◌}
 use Prim.Native.Nat.{ℕ, zero, suc, ◌+◌, ◌-◌, ◌<◌, ◌≤◌}
 use mathlib.Core.Path.{◌≡◌, refl, sym, ap, ◌∙◌}
 use mathlib.Core.Bool.{Bool, true, false, ◌&&◌, ◌||◌, and-eq-true_iff}
@@ -8,7 +9,6 @@ use borrow.Author.Tests.{eqb-true, eqb-false, ne_eqb}
 use lib.Bits.{bit_or}
 use lib.Dec.{eqb}
 use lib.ListN.{length}
-use Rattle.rules.specs.General.{if◌then◌else◌}
 use Rattle.rules.specs.Summary.{every_below, row_count, number_at, is_used, is_unused, is_bare, row_sound}
 use Rattle.rules.proofs.Below.{below-same, below_at}
 use Rattle.rules.proofs.Rows.{row_count_lem}

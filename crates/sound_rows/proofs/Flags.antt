@@ -1,4 +1,5 @@
 -- Hints by the low octet: where none is met a number is new. A hint says besides where in the list the last such number is, of which nothing need be known.
+use Rattle.std.specs.Prelude.{if◌then◌else◌}
 use Prim.Native.Nat.{ℕ, ◌+◌, ◌-◌, ◌<◌, ◌≤◌, ◌%◌}
 use mathlib.Core.Path.{◌≡◌, refl, sym, ap, ◌∙◌}
 use mathlib.Core.Bool.{Bool, true, false, not, ◌&&◌, and-eq-true_iff, true≢false}
@@ -9,7 +10,7 @@ use borrow.Author.Tests.{eqb-true, eqb-false, ne_eqb}
 use lib.Dec.{eqb}
 use lib.ListN.{length, get_or, set, length-set, replicate}
 use lib.Seq.{get_or-set_same, get_or-set_other}
-use Rattle.rules.specs.General.{if◌then◌else◌, every, every_two}
+use Rattle.rules.specs.General.{every, every_two}
 use Rattle.sound_rows.specs.Listing.{is_other, of_those, back}
 use Rattle.sound_rows.proofs.Packed.{back_more}
 use Rattle.sound_rows.proofs.Counted.{back-length, no_more, all-met}

@@ -1,4 +1,5 @@
 -- The associations of used rows as a list: what it tells of the rows, and how it grows at the front of an array.
+use Rattle.std.specs.Prelude.{if◌then◌else◌}
 use Prim.Native.Nat.{ℕ, zero, suc, ◌+◌, ◌<◌, ◌≤◌}
 use mathlib.Core.Path.{◌≡◌, refl, sym, ap, ◌∙◌}
 use mathlib.Core.Bool.{Bool, true, false, not, ◌&&◌, and-false, and-eq-true_iff}
@@ -9,7 +10,7 @@ use borrow.Author.Tests.{eqb-true, eqb-false, eq-eqb, leb-true, ltb-true}
 use lib.Dec.{eqb, ltb}
 use lib.ListN.{length, get_or, set}
 use lib.Seq.{get_or-set_same, get_or-set_other}
-use Rattle.rules.specs.General.{if◌then◌else◌, every, every_two}
+use Rattle.rules.specs.General.{every, every_two}
 use Rattle.rules.specs.Places.{is_at}
 use Rattle.rules.specs.Summary.{every_below, every_pair, first_below, or_else, row_count, number_at, is_used, is_for, row_of, row_sound, rows_apart}
 use Rattle.rules.specs.declared.Found.{Found}

@@ -1,6 +1,6 @@
 -- The associations of used rows as a list, packed at the front of an array: what the code tells apart and looks up.
-use Rattle.std.specs.Prelude.{ℕ, zero, suc, ◌<◌, ◌≤◌, ◌%◌, ◌≡◌, Bool, true, not, ◌&&◌, List, [], ◌∷◌, eqb, leb, get_or}
-use Rattle.rules.specs.General.{if◌then◌else◌, every}
+use Rattle.std.specs.Prelude.{if◌then◌else◌, ℕ, zero, suc, ◌<◌, ◌≤◌, ◌%◌, ◌≡◌, Bool, true, not, ◌&&◌, List, [], ◌∷◌, eqb, leb, get_or}
+use Rattle.rules.specs.General.{every}
 use Rattle.rules.specs.Places.{is_at}
 use Rattle.rules.specs.Summary.{every_below, every_pair, row_count, number_at, is_unused, is_bare, row_sound, rows_apart, row_of}
 

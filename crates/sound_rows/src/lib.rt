@@ -1,8 +1,8 @@
 // Whether a summary, which its caller lends, is sound beside open places, of which their associations are told. The marks are at 0 + i, as the rules have it.
 #![tactic(auto)]
 
-ghost use Rattle.std.specs.Prelude.{◌≡◌, true, not, ◌&&◌, ◌||◌, ◌+◌, ◌<◌, ◌≤◌, ◌%◌, eqb, leb, length, take};
-ghost use Rattle.rules.specs.General.{if◌then◌else◌, every, every_two};
+ghost use Rattle.std.specs.Prelude.{if◌then◌else◌, ◌≡◌, true, not, ◌&&◌, ◌||◌, ◌+◌, ◌<◌, ◌≤◌, ◌%◌, eqb, leb, length, take};
+ghost use Rattle.rules.specs.General.{every, every_two};
 ghost use Rattle.rules.specs.Summary.{every_below, row_count, is_used, is_bare, row_sound};
 ghost use Rattle.sound_rows.specs.Listing.{is_other, of_those, back, low_of, name_fits, EmptyFrom, listed_in, sound_beside};
 

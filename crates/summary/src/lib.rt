@@ -1,8 +1,7 @@
 // A summary, which its caller lends: 64 rows of 8 numbers, column by column. The marks are at 0 + i, as the rules have it: a sum does not compute away in a proof.
 #![tactic(auto)]
 
-ghost use Rattle.std.specs.Prelude.{◌≡◌, true, ◌&&◌, ℕ, ◌+◌, ◌<◌, length};
-ghost use Rattle.rules.specs.General.{if◌then◌else◌};
+ghost use Rattle.std.specs.Prelude.{if◌then◌else◌, ◌≡◌, true, ◌&&◌, ℕ, ◌+◌, ◌<◌, length};
 ghost use Rattle.rules.specs.Summary.{number_at, row_of, unused_row, row_for, tally, seat, total_fits, fits, empty_summary};
 ghost use Rattle.rules.specs.declared.Found.TheVariants.{At};
 ghost use Rattle.summary.specs.Losses.{loss_in};

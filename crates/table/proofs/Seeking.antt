@@ -1,7 +1,6 @@
 -- What a search passes by does not hold the key; and two searches of eight places are one of all.
-use Rattle.std.proofs.Common.{◌≡◌, ℕ, ◌+◌, ◌<◌, Bool, true, false, ◌&&◌, eqb, List, length, get_or, drop, sym, refl, ap, ◌∙◌, arith, drop_of_length-le, eq-eqb, ne_eqb}
+use Rattle.std.proofs.Common.{if◌then◌else◌, ◌≡◌, ℕ, ◌+◌, ◌<◌, Bool, true, false, ◌&&◌, eqb, List, length, get_or, drop, sym, refl, ap, ◌∙◌, arith, drop_of_length-le, eq-eqb, ne_eqb}
 use mathlib.Core.Bool.{and-false}
-use Rattle.rules.specs.General.{if◌then◌else◌}
 use Rattle.rules.specs.Numbers.{place_count}
 use Rattle.rules.specs.Places.{same_octets, same_address, same_key, is_open, is_free, holds, no_place, first_from, place_of, lowest_free, found_at}
 use Rattle.rules.specs.declared.Key.{Key}

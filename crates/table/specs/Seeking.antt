@@ -1,6 +1,5 @@
 -- A search that goes on to the end: the number of the first place that passed so far, 16 where none did.
-use Rattle.std.specs.Prelude.{◌≡◌, ℕ, ◌+◌, ◌<◌, ◌≤◌, Bool, true, false, ◌&&◌, List, drop, ◌==◌}
-use Rattle.rules.specs.General.{if◌then◌else◌}
+use Rattle.std.specs.Prelude.{if◌then◌else◌, ◌≡◌, ℕ, ◌+◌, ◌<◌, ◌≤◌, Bool, true, false, ◌&&◌, List, drop, ◌==◌}
 use Rattle.rules.specs.Numbers.{place_count}
 use Rattle.rules.specs.Places.{same_octets, is_free, holds, first_from, is_at}
 use Rattle.rules.specs.declared.Key.{Key}

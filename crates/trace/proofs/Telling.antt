@@ -1,11 +1,10 @@
 -- What a watcher writes of a turn is what its observer prints.
-use Rattle.std.proofs.Common.{◌≡◌, ℕ, ◌+◌, ◌<◌, ◌≤◌, Bool, true, false, not, ◌&&◌, eqb, ltb, leb, List, [], ◌∷◌, ◌++◌, length, get_or, take, drop, sym, refl, ap, ◌∙◌, true≢false, arith, ltb-false, ltb-true, eqb-true, le-leb}
+use Rattle.std.proofs.Common.{if◌then◌else◌, ◌≡◌, ℕ, ◌+◌, ◌<◌, ◌≤◌, Bool, true, false, not, ◌&&◌, eqb, ltb, leb, List, [], ◌∷◌, ◌++◌, length, get_or, take, drop, sym, refl, ap, ◌∙◌, true≢false, arith, ltb-false, ltb-true, eqb-true, le-leb}
 use mathlib.Core.Bool.{and-true, and-false}
 use borrow.Author.Tests.{lt-leb}
 use Rattle.octets.specs.Number.{number}
 use Rattle.octets.proofs.Splice.{splice-nil, wrote_then}
 use Rattle.octets.specs.Splice.{Wrote}
-use Rattle.rules.specs.General.{if◌then◌else◌}
 use Rattle.rules.specs.Records.{records_from}
 use Rattle.rules.specs.Calls.{Lent, Answer, step}
 use Rattle.rules.specs.Trace.{Event, Opening, Segment, Clock, Release, Item, Registers, Happens, is_known, body_length, item_of, is_opening, lent_after}

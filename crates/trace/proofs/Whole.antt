@@ -1,7 +1,6 @@
 -- Block by block is the rule of whole traces, whoever watches: specs/Whole.antt.
-use Rattle.std.proofs.Common.{◌≡◌, ℕ, zero, suc, ◌+◌, ◌-◌, ◌<◌, ◌≤◌, Bool, true, false, not, eqb, ltb, List, [], ◌∷◌, ◌++◌, length, take, drop, sym, refl, ap, ◌∙◌, append_assoc, append-nil, arith, length-append, length-drop, length-take-le, drop-drop, ltb-false, ltb-true, ne_eqb, eqb-true}
+use Rattle.std.proofs.Common.{if◌then◌else◌, ◌≡◌, ℕ, zero, suc, ◌+◌, ◌-◌, ◌<◌, ◌≤◌, Bool, true, false, not, eqb, ltb, List, [], ◌∷◌, ◌++◌, length, take, drop, sym, refl, ap, ◌∙◌, append_assoc, append-nil, arith, length-append, length-drop, length-take-le, drop-drop, ltb-false, ltb-true, ne_eqb, eqb-true}
 use borrow.Author.Tests.{eqb-false, lt-leb}
-use Rattle.rules.specs.General.{if◌then◌else◌}
 use Rattle.rules.specs.Calls.{State, Lent, Outcome, step}
 use Rattle.rules.specs.Trace.{Event, Opening, Segment, Clock, Release, Item, Registers, Happens, is_known, body_length, item_of, items_of, call_of, happened, registered, Sight, sight_of}
 use Rattle.rules.specs.Trace.{Observer, watched, watching}

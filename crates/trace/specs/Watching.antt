@@ -1,7 +1,6 @@
 -- A trace as it is watched: what one record does and what an observer prints of it, and a block of records.
-use Rattle.std.specs.Prelude.{◌≡◌, ℕ, zero, suc, ◌+◌, ◌-◌, ◌≤◌, Bool, true, false, not, ◌&&◌, ◌||◌, List, [], ◌∷◌, ◌++◌, length, drop, ◌==◌, nat_le, nat_lt}
+use Rattle.std.specs.Prelude.{if◌then◌else◌, ◌≡◌, ℕ, zero, suc, ◌+◌, ◌-◌, ◌≤◌, Bool, true, false, not, ◌&&◌, ◌||◌, List, [], ◌∷◌, ◌++◌, length, drop, ◌==◌, nat_le, nat_lt}
 use Rattle.octets.specs.Splice.{Wrote}
-use Rattle.rules.specs.General.{if◌then◌else◌}
 use Rattle.rules.specs.Calls.{State, Lent}
 use Rattle.rules.specs.Trace.{body_length, Observer}
 use Rattle.rules.specs.Lines.{stop_if, counted, lining}

@@ -1,7 +1,6 @@
 -- Block by block is the rule of whole traces, whoever watches: however a trace is cut into blocks, and whatever room there is for lines, what is printed is what the rule prints of the whole.
 -- proofs/Whole.antt proves the four claims at the end, of any observer.
-use Rattle.std.specs.Prelude.{◌≡◌, ℕ, zero, suc, ◌+◌, ◌<◌, ◌≤◌, false, List, [], ◌∷◌, ◌++◌, length, take, drop, replicate, ◌==◌}
-use Rattle.rules.specs.General.{if◌then◌else◌}
+use Rattle.std.specs.Prelude.{if◌then◌else◌, ◌≡◌, ℕ, zero, suc, ◌+◌, ◌<◌, ◌≤◌, false, List, [], ◌∷◌, ◌++◌, length, take, drop, replicate, ◌==◌}
 use Rattle.rules.specs.Numbers.{store_least}
 use Rattle.rules.specs.Registry.{is_cut}
 use Rattle.rules.specs.Opening.{unopened}

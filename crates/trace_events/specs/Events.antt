@@ -1,7 +1,6 @@
 -- An event as the code does it: its call, and the registry records that are kept.
-use Rattle.std.specs.Prelude.{ℕ, ◌+◌, ◌≡◌, List, ◌∷◌, ltb, take}
+use Rattle.std.specs.Prelude.{if◌then◌else◌, ℕ, ◌+◌, ◌≡◌, List, ◌∷◌, ltb, take}
 use Rattle.octets.specs.Splice.{splice}
-use Rattle.rules.specs.General.{if◌then◌else◌}
 use Rattle.rules.specs.Refusals.{nowhere}
 use Rattle.rules.specs.Calls.{State, state_of, Lent, Outcome, step}
 use Rattle.rules.specs.Trace.{Event, call_of, lent_after}

@@ -1,4 +1,5 @@
 -- The items of a trace, record by record.
+use Rattle.std.specs.Prelude.{if◌then◌else◌}
 use Prim.Native.Nat.{ℕ, zero, suc, ◌≤◌}
 use mathlib.Core.Path.{◌≡◌, refl}
 use mathlib.Core.Bool.{Bool, true, false}
@@ -8,7 +9,6 @@ use borrow.Author.Tests.{le-leb}
 use lib.Dec.{eqb}
 use lib.ListN.{length, take, drop, length-append, length-drop}
 use lib.Seq.{take-append-le, drop-append-le}
-use Rattle.rules.specs.General.{if◌then◌else◌}
 use Rattle.rules.specs.Trace.{Event, Item, Registers, Happens, is_known, body_length, item_of, items_of}
 
 -- any fuel that is at least the length gives the same

@@ -1,4 +1,5 @@
 -- Kinds and bodies.
+use Rattle.std.specs.Prelude.{if◌then◌else◌}
 use Prim.Native.Nat.{ℕ, zero, suc, ◌+◌, ◌≤◌, ◌<◌}
 use mathlib.Core.Path.{◌≡◌, refl}
 use mathlib.Core.Bool.{Bool, true, false}
@@ -7,7 +8,6 @@ use native.Mathlib.Omega.{arith}
 use borrow.Author.Tests.{leb-true, lt-leb, ne_eqb}
 use lib.Dec.{eqb, leb}
 use lib.ListN.{length, take, drop, get_or}
-use Rattle.rules.specs.General.{if◌then◌else◌}
 use Rattle.rules.specs.Trace.{Registers, body_length, item_of}
 use Rattle.rules.specs.Trace as trace
 use Rattle.rules.proofs.Lists.{left}

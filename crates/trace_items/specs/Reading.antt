@@ -1,6 +1,5 @@
 -- What the readers answer, in the words of the rule of traces.
-use Rattle.std.specs.Prelude.{ℕ, List, ◌∷◌, take, drop}
-use Rattle.rules.specs.General.{if◌then◌else◌}
+use Rattle.std.specs.Prelude.{if◌then◌else◌, ℕ, List, ◌∷◌, take, drop}
 use Rattle.rules.specs.Trace.{Item, Registers, Happens, Opening, Clock, Release, is_known, body_length}
 use Rattle.rules.specs.Trace as trace
 use Rattle.trace_items.specs.declared.Event as code

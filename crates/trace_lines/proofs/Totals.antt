@@ -1,4 +1,5 @@
 -- The octets of a kind's records, record by record.
+use Rattle.std.specs.Prelude.{if◌then◌else◌}
 use Prim.Native.Nat.{ℕ, suc, ◌+◌, ◌*◌, ◌-◌, ◌<◌}
 use mathlib.Core.Path.{◌≡◌, ◌∙◌}
 use mathlib.Core.List.{List, [], ◌∷◌}
@@ -7,7 +8,6 @@ use lib.Dec.{eqb}
 use lib.ListN.{take, drop, get_or}
 use lib.Seq.{get_or-take, get_or-drop, drop-drop}
 use Rattle.octets.specs.Number.{number}
-use Rattle.rules.specs.General.{if◌then◌else◌}
 use Rattle.rules.specs.Records.{record_length, record_from, records_from}
 use Rattle.rules.specs.Lines.{octets_of}
 

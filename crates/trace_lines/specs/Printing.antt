@@ -1,6 +1,5 @@
 -- A line by its event's kind octet, and how long it can be.
-use Rattle.std.specs.Prelude.{ℕ, ◌+◌, ◌*◌, List, [], ◌∷◌, ◌++◌, eqb}
-use Rattle.rules.specs.General.{if◌then◌else◌}
+use Rattle.std.specs.Prelude.{if◌then◌else◌, ℕ, ◌+◌, ◌*◌, List, [], ◌∷◌, ◌++◌, eqb}
 use Rattle.rules.specs.Records.{delivered, lost, records_from}
 use Rattle.rules.specs.Trace.{Opening, Segment, Clock, Release}
 use Rattle.rules.specs.Lines.{name_of, octets_of, line_fields, position_word}

@@ -1,4 +1,5 @@
 -- Lines one after the other; a record's octets.
+use Rattle.std.specs.Prelude.{if◌then◌else◌}
 use Prim.Native.Nat.{ℕ, suc, ◌+◌, ◌*◌, ◌-◌, ◌≤◌, ◌<◌}
 use mathlib.Core.Path.{◌≡◌, refl, sym, ap, ◌∙◌}
 use mathlib.Core.Bool.{Bool, true, false}
@@ -10,7 +11,7 @@ use lib.ListN.{length, take, drop, get_or, replicate, length-drop, drop_of_lengt
 use lib.Seq.{drop-cons, drop-drop, length-take-le}
 use Rattle.octets.specs.Splice.{splice}
 use Rattle.octets.proofs.Splice.{splice-is}
-use Rattle.rules.specs.General.{if◌then◌else◌, those}
+use Rattle.rules.specs.General.{those}
 use Rattle.rules.specs.Records.{record_length, recorded_at, record_from, records_from}
 use Rattle.rules.specs.Numbers.{address_most}
 use Rattle.octets.specs.Number.{number}

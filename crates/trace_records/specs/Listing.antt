@@ -1,6 +1,5 @@
 -- What is printed of an event, by its kind octet and its answer.
-use Rattle.std.specs.Prelude.{ℕ, ◌+◌, Bool, List, [], ◌∷◌, ◌++◌, eqb}
-use Rattle.rules.specs.General.{if◌then◌else◌}
+use Rattle.std.specs.Prelude.{if◌then◌else◌, ℕ, ◌+◌, Bool, List, [], ◌∷◌, ◌++◌, eqb}
 use Rattle.rules.specs.Records.{records_from}
 use Rattle.rules.specs.Lines.{field, stop_if}
 use Rattle.rules.specs.Listing.{dropped_word, held_word, reference_word, record_lines, open_lines, numbered_line}

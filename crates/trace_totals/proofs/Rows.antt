@@ -1,4 +1,5 @@
 -- Rows one after the other; a row's line by pairs of numbers.
+use Rattle.std.specs.Prelude.{if◌then◌else◌}
 use Prim.Native.Nat.{ℕ, ◌+◌}
 use mathlib.Core.Path.{◌≡◌, sym, ap}
 use mathlib.Core.List.{List, [], ◌∷◌, ◌++◌, append_assoc}
@@ -6,7 +7,6 @@ use native.Mathlib.Nat.{add-zero}
 use native.Mathlib.Numerals.{add-one}
 use Rattle.octets.specs.Splice.{Wrote}
 use Rattle.octets.proofs.Splice.{splice-nil, wrote_then}
-use Rattle.rules.specs.General.{if◌then◌else◌}
 use Rattle.rules.specs.Summary.{number_at, is_used}
 use Rattle.rules.specs.Lines.{decimal}
 use Rattle.rules.specs.Totalling.{row_line, rows_below, row_lines}

@@ -1,9 +1,8 @@
 // The lines of the program totals, written into a lent area: an opening's heading, and a line for each used row of a summary.
 #![tactic(auto)]
 
-ghost use Rattle.std.specs.Prelude.{◌≡◌, [], ◌++◌, ◌+◌, ◌≤◌, ◌<◌};
+ghost use Rattle.std.specs.Prelude.{if◌then◌else◌, ◌≡◌, [], ◌++◌, ◌+◌, ◌≤◌, ◌<◌};
 ghost use Rattle.octets.specs.Splice.{Wrote};
-ghost use Rattle.rules.specs.General.{if◌then◌else◌};
 ghost use Rattle.rules.specs.Summary.{is_used};
 ghost use Rattle.rules.specs.Lines.{stop_if};
 ghost use Rattle.rules.specs.Totalling.{heading_line, row_line, row_lines};

@@ -1,9 +1,9 @@
 -- A registry record stops the trace or is kept.
+use Rattle.std.specs.Prelude.{if◌then◌else◌}
 use Prim.Native.Nat.{ℕ}
 use mathlib.Core.Path.{◌≡◌, refl, ap}
 use mathlib.Core.Bool.{Bool, true, false}
 use mathlib.Core.List.{List}
-use Rattle.rules.specs.General.{if◌then◌else◌}
 use Rattle.rules.specs.Calls.{Lent}
 use Rattle.trace_events.specs.Events.{Stored, keeping}
 use Rattle.trace_events.specs.declared.Replay.{Replay}

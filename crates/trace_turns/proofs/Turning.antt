@@ -1,4 +1,5 @@
 -- The record at the front of an input, by its kind and its length.
+use Rattle.std.specs.Prelude.{if◌then◌else◌}
 use Prim.Native.Nat.{ℕ, ◌+◌, ◌-◌, ◌≤◌, ◌<◌}
 use mathlib.Core.Path.{◌≡◌, refl, sym}
 use mathlib.Core.Bool.{Bool, true, false}
@@ -7,7 +8,6 @@ use native.Mathlib.Omega.{arith}
 use borrow.Author.Tests.{lt-ltb, le-ltb}
 use lib.ListN.{length, take, drop, get_or, length-drop}
 use lib.Seq.{length-take-le}
-use Rattle.rules.specs.General.{if◌then◌else◌}
 use Rattle.rules.specs.Calls.{Lent}
 use Rattle.rules.specs.Trace.{is_known, body_length, item_of}
 use Rattle.trace_items.specs.Reading.{body_of}

@@ -1,6 +1,5 @@
 -- A trace as the code walks over it: what the record at the front of an input does.
-use Rattle.std.specs.Prelude.{ℕ, ◌+◌, ◌*◌, ◌≤◌, ◌≡◌, not, ◌||◌, List, [], ◌∷◌, ltb, length, take}
-use Rattle.rules.specs.General.{if◌then◌else◌}
+use Rattle.std.specs.Prelude.{if◌then◌else◌, ℕ, ◌+◌, ◌*◌, ◌≤◌, ◌≡◌, not, ◌||◌, List, [], ◌∷◌, ltb, length, take}
 use Rattle.rules.specs.Records.{record_length}
 use Rattle.rules.specs.Arrival.{records_most}
 use Rattle.rules.specs.Calls.{Lent, Outcome}

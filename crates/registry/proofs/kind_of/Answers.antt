@@ -1,3 +1,4 @@
+use Rattle.std.specs.Prelude.{if◌then◌else◌}
 use Prim.Native.Nat.{ℕ, ◌+◌, ◌<◌}
 use mathlib.Core.Path.{◌≡◌, refl, sym, ◌∙◌}
 use mathlib.Core.List.{List}
@@ -7,7 +8,6 @@ use borrow.Author.Tests.{eq-eqb, ne_eqb}
 use lib.Dec.{eqb}
 use lib.ListN.{length, drop, get_or, drop_of_length-le}
 use lib.Seq.{drop-cons}
-use Rattle.rules.specs.General.{if◌then◌else◌}
 use Rattle.rules.specs.Registry.{kind_of}
 use Rattle.rules.specs.Opening.{no_entry}
 use Rattle.rules.specs.declared.Entry.{Entry}
