@@ -6,6 +6,5 @@ use Rattle.sound_free.proofs.idle_sound.Goals as goal
 
 pub returns : goal.returns
 returns c =
-    let l = c in
-    rw (or-nought l.lower_weight.result c.upper_weight.result, l.lower_weight.ensures, c.upper_weight.ensures)
-    (sym (in_two sound_if_idle 8 l.args.places 0))
+    rw (or-nought c.lower_weight.result c.upper_weight.result, c.lower_weight.ensures, c.upper_weight.ensures)
+    (sym (in_two sound_if_idle 8 c.args.places 0))

@@ -1,9 +1,7 @@
-use Prim.Native.Nat.{◌-◌}
 use native.Mathlib.Omega.{arith}
 use lib.Dec.{eqb}
 use lib.ListN.{take}
 use lib.Seq.{get_or-take, length-take-le}
-use Rattle.rules.specs.General.{every}
 use Rattle.rules.specs.Places.{no_place}
 use Rattle.rules.proofs.Along.{every-so-far, every-over}
 use Rattle.rules.proofs.Nought.{or-nought}
@@ -12,14 +10,12 @@ use Rattle.sound_free.proofs.lower_weight.Goals as goal
 
 pub loop-i-preserved : goal.loop-i-preserved
 loop-i-preserved c =
-    let l = c in
-    let a = l.args in
-    rw (or-nought l.loop-i.sum c.idle_weight-sum.result)
-    (every-so-far sound_if_idle (take 8 a.places) no_place l.loop-i.i _ (eqb l.loop-i.sum 0) l.loop-i.invariant _ (omega (arith, length-take-le 8 a.places (omega arith)))
-    (rw (get_or-take 8 a.places l.loop-i.i no_place (omega arith)) c.idle_weight-sum.ensures))
+    let a = c.args in
+    rw (or-nought c.loop-i.sum c.idle_weight-sum.result)
+    (every-so-far sound_if_idle (take 8 a.places) no_place c.loop-i.i _ (eqb c.loop-i.sum 0) c.loop-i.invariant _ (omega (arith, length-take-le 8 a.places (omega arith)))
+    (rw (get_or-take 8 a.places c.loop-i.i no_place (omega arith)) c.idle_weight-sum.ensures))
 
 pub returns : goal.returns
 returns c =
-    let l = c in
-    let a = l.args in
-    every-over sound_if_idle (take 8 a.places) no_place l.loop-i.i _ (eqb l.loop-i.sum 0) l.loop-i.invariant (omega (arith, length-take-le 8 a.places (omega arith)))
+    let a = c.args in
+    every-over sound_if_idle (take 8 a.places) no_place c.loop-i.i _ (eqb c.loop-i.sum 0) c.loop-i.invariant (omega (arith, length-take-le 8 a.places (omega arith)))

@@ -1,8 +1,6 @@
-use Prim.Native.Nat.{◌-◌}
 use mathlib.Core.Path.{ap}
 use mathlib.Core.Bool.{not}
 use borrow.Author.Tests.{eq-eqb, ne_eqb}
-use Rattle.rules.specs.General.{every}
 use Rattle.rules.specs.Places.{no_place}
 use Rattle.rules.proofs.Lists.{every-fails, every-goes, every-ends}
 use native.Mathlib.Omega.{arith}
@@ -11,15 +9,12 @@ use Rattle.sound_free.proofs.none_open.Goals as goal
 
 pub returns-then-places-i-eq1 : goal.returns-then-places-i-eq1
 returns-then-places-i-eq1 c =
-    let l = c in
-    every-fails is_shut l.args.places no_place l.loop-i.i _ l.loop-i.invariant (omega arith) (ap not (eq-eqb _ _ c.if-places-i-eq1.true))
+    every-fails is_shut c.args.places no_place c.loop-i.i _ c.loop-i.invariant (omega arith) (ap not (eq-eqb _ _ c.if-places-i-eq1.true))
 
 pub loop-i-preserved : goal.loop-i-preserved
 loop-i-preserved c =
-    let l = c in
-    every-goes is_shut l.args.places no_place l.loop-i.i _ l.loop-i.invariant (omega arith) (ap not (ne_eqb _ _ c.if-places-i-eq1.false))
+    every-goes is_shut c.args.places no_place c.loop-i.i _ c.loop-i.invariant (omega arith) (ap not (ne_eqb _ _ c.if-places-i-eq1.false))
 
 pub returns : goal.returns
 returns c =
-    let l = c in
-    every-ends is_shut l.args.places no_place l.loop-i.i _ l.loop-i.invariant (omega arith)
+    every-ends is_shut c.args.places no_place c.loop-i.i _ c.loop-i.invariant (omega arith)

@@ -1,7 +1,5 @@
-use Prim.Native.Nat.{◌-◌}
 use native.Mathlib.Omega.{arith}
 use lib.Dec.{eqb}
-use Rattle.rules.specs.General.{every}
 use Rattle.rules.specs.Places.{no_place}
 use Rattle.rules.proofs.Along.{every-so-far, every-over}
 use Rattle.rules.proofs.Nought.{or-nought}
@@ -10,11 +8,9 @@ use Rattle.sound_free.proofs.upper_weight.Goals as goal
 
 pub loop-i-preserved : goal.loop-i-preserved
 loop-i-preserved c =
-    let l = c in
-    rw (or-nought l.loop-i.sum c.idle_weight-sum.result)
-    (every-so-far sound_if_idle l.args.places no_place l.loop-i.i _ (eqb l.loop-i.sum 0) l.loop-i.invariant _ (omega arith) c.idle_weight-sum.ensures)
+    rw (or-nought c.loop-i.sum c.idle_weight-sum.result)
+    (every-so-far sound_if_idle c.args.places no_place c.loop-i.i _ (eqb c.loop-i.sum 0) c.loop-i.invariant _ (omega arith) c.idle_weight-sum.ensures)
 
 pub returns : goal.returns
 returns c =
-    let l = c in
-    every-over sound_if_idle l.args.places no_place l.loop-i.i _ (eqb l.loop-i.sum 0) l.loop-i.invariant (omega arith)
+    every-over sound_if_idle c.args.places no_place c.loop-i.i _ (eqb c.loop-i.sum 0) c.loop-i.invariant (omega arith)

@@ -3,7 +3,5 @@ use Rattle.sound_free.proofs.weight.Goals as goal
 
 pub returns : goal.returns
 returns c =
-    let o = c in
-    let w = o in
-    let p = w.args.p in
-    weight-nought p _ _ _ o.address_weight.ensures c.address_weight-2.ensures w.word-rest.ensures.result_value
+    let p = c.args.p in
+    weight-nought p _ _ _ c.address_weight.ensures c.address_weight-2.ensures c.word-rest.ensures.result_value
