@@ -1,0 +1,17 @@
+use mathlib.Core.Path.{sym, ◌∙◌}
+use Rattle.rules.proofs.Fitting.{fits-same}
+use Rattle.summary.proofs.bill_loss.Goals as goal
+
+pub lose_in-requires : goal.lose_in-requires
+lose_in-requires c =
+    c.row_of.ensures.by_index _ c.in-At.is
+
+pub returns-in-At : goal.returns-in-At
+returns-in-At c =
+    let found = sym c.row_of.ensures.value ∙ c.in-At.is in
+    record { value = rw found c.lose_in.ensures.value; m_after = rw found c.lose_in.ensures.m_after }
+
+pub returns-in-Nothing : goal.returns-in-Nothing
+returns-in-Nothing c =
+    let none = sym c.row_of.ensures.value ∙ c.in-Nothing.is in
+    record { value = rw none (sym (fits-same c.args.m.now)); m_after = rw none }

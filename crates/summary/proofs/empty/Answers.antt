@@ -1,0 +1,7 @@
+use mathlib.Core.Path.{refl}
+use Rattle.rules.specs.Summary.{empty_summary}
+use Rattle.summary.proofs.empty.Goals as goal
+
+pub returns : goal.returns
+unfolding empty_summary
+returns c = refl
