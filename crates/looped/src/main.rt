@@ -1,7 +1,6 @@
 // Data from standard input, up to 2,048 octets, cut into segments, received and delivered to standard output: the same octets.
 #![tactic(auto)]
 
-use libc::{STDIN_FILENO, STDOUT_FILENO};
 use rules::{Context, Reference, Request, Table};
 
 // Context 3 of 1998; T 100.
@@ -23,19 +22,19 @@ fn asked() -> Request {
 }
 
 // Prints, and answers whether that went well; where not, that is told.
-fn print(octets: &[u8]) -> bool {
-    streams::write(STDOUT_FILENO, b"looped: cannot write", octets)
+fn print(rt: &HostRuntime, octets: &[u8]) -> bool {
+    streams::write(rt, &mut rt.stdout(), b"looped: cannot write", octets)
 }
 
-fn refused(number: u8) {
+fn refused(rt: &HostRuntime, number: u8) {
     let mut text = [0u8; 20];
     let n = io::decimal(number as u64, &mut text);
-    if print(b"refused ") && print(&text[..n]) {
-        print(b"\n");
+    if print(rt, b"refused ") && print(rt, &text[..n]) {
+        print(rt, b"\n");
     }
 }
 
-fn looped(data: &[u8]) {
+fn looped(rt: &HostRuntime, data: &[u8]) {
     let mut summary = [0u64; rules::SUMMARY];
     let table = fresh(&mut summary);
     let mut area = [0u8; 255];
@@ -54,22 +53,22 @@ fn looped(data: &[u8]) {
         &mut report,
     );
     if r.number != 0 {
-        refused(r.number);
+        refused(rt, r.number);
         return;
     }
     let decision = r.decision;
     let last = octets::part(&area, 0, r.length as usize);
-    print(receiver::delivery(decision, last, &store));
+    print(rt, receiver::delivery(decision, last, &store));
 }
 
-fn main() {
-    if streams::misused(os::arg_count(), b"usage: looped < DATA\n") {
+fn main(rt: HostRuntime) {
+    if streams::misused(&rt, streams::words(&rt), b"usage: looped < DATA\n") {
         return;
     }
     let mut data = [0u8; 2049];
-    let got = streams::fill(STDIN_FILENO, b"looped: cannot read", &mut data);
+    let got = streams::fill(&rt, &mut rt.stdin(), b"looped: cannot read", &mut data);
     if got.failed {
         return;
     }
-    looped(octets::part(&data, 0, got.count));
+    looped(&rt, octets::part(&data, 0, got.count));
 }

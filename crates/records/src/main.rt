@@ -4,18 +4,20 @@
 use trace::Watcher;
 
 // Whether there was an argument. A trace that is named and not read must not pass for an empty one.
-fn misused() -> bool {
+fn misused(rt: &HostRuntime) -> bool {
     streams::misused(
-        os::arg_count(),
+        rt,
+        streams::words(rt),
         b"usage: records < TRACE\nA trace in octets on standard input; its events and their records on standard output. See egrynnol(1).\n",
     )
 }
 
-fn main() {
-    if misused() {
+fn main(rt: HostRuntime) {
+    if misused(&rt) {
         return;
     }
     trace_session::run(
+        &rt,
         Watcher::Records,
         b"records: cannot read",
         b"records: cannot write",

@@ -4,7 +4,6 @@
 ghost use Rattle.std.specs.Prelude.{◌≡◌, ◌-◌, ◌≤◌, length, take, drop};
 ghost use Rattle.octets.specs.Splice.{splice};
 
-use libc::{STDIN_FILENO, STDOUT_FILENO};
 use trace::{Progress, Watcher};
 use trace_events::Replay;
 
@@ -29,10 +28,10 @@ fn over(replay: Replay) -> Session
 }
 
 // Prints the first n octets of an area, and answers whether that went well; where not, that is told.
-fn print(unwritten: &[u8], out: &[u8], n: usize) -> bool
+fn print(rt: &HostRuntime, unwritten: &[u8], out: &[u8], n: usize) -> bool
     requires { n ≤ length out.now }
 {
-    streams::write(STDOUT_FILENO, unwritten, &out[..n])
+    streams::write(rt, &mut rt.stdout(), unwritten, &out[..n])
 }
 
 // The octets from an index to another move to the front.
@@ -53,6 +52,7 @@ fn forward(input: &mut [u8], from: usize, to: usize) -> usize
 // Reads more, past the octets that wait for the rest of their record. Where the input has ended, so does the replay.
 // Where reading failed, which is told, it ends too, with no 'stop': that line says what was found in the trace, and nothing was.
 fn refill(
+    rt: &HostRuntime,
     which: Watcher,
     unread: &[u8],
     unwritten: &[u8],
@@ -66,14 +66,14 @@ fn refill(
     requires { (have ≤ length input.old) × (16384 ≤ length out.old) }
     ensures { result.have ≤ length input.old }
 {
-    let got = streams::read(STDIN_FILENO, unread, &mut input[have..]);
+    let got = streams::read(rt, &mut rt.stdin(), unread, &mut input[have..]);
     if got.failed {
         return over(replay);
     }
     let n = got.count;
     if n == 0 {
         let last = trace::ending(which, replay, m, have, out);
-        print(unwritten, out, last);
+        print(rt, unwritten, out, last);
         return over(replay);
     }
     Session {
@@ -86,6 +86,7 @@ fn refill(
 
 // After a block: its lines are printed, and what is left moves to the front. Where nothing was used, that is no whole record, and more is read.
 fn go_on(
+    rt: &HostRuntime,
     which: Watcher,
     unread: &[u8],
     unwritten: &[u8],
@@ -101,14 +102,14 @@ fn go_on(
     let replay = t.replay;
     let used = t.used;
     let events = t.events;
-    let going = print(unwritten, out, t.written) & !t.ended;
+    let going = print(rt, unwritten, out, t.written) & !t.ended;
     if !going {
         return over(replay);
     }
     let left = forward(input, used, have);
     if used == 0 {
         return refill(
-            which, unread, unwritten, replay, events, m, input, left, out,
+            rt, which, unread, unwritten, replay, events, m, input, left, out,
         );
     }
     Session {
@@ -121,6 +122,7 @@ fn go_on(
 
 // A block of the octets that are there.
 fn step(
+    rt: &HostRuntime,
     which: Watcher,
     unread: &[u8],
     unwritten: &[u8],
@@ -146,7 +148,7 @@ fn step(
         &input[..have],
         out,
     );
-    go_on(which, unread, unwritten, t, m, input, have, out)
+    go_on(rt, which, unread, unwritten, t, m, input, have, out)
 }
 
 fn beginning() -> Session
@@ -162,7 +164,7 @@ fn beginning() -> Session
 }
 
 // All of it: the session as it ended. unread and unwritten are how the lines begin that tell of a failure, as 'replay: cannot read'.
-pub fn run(which: Watcher, unread: &[u8], unwritten: &[u8]) -> Session
+pub fn run(rt: &HostRuntime, which: Watcher, unread: &[u8], unwritten: &[u8]) -> Session
     ensures { result.have ≤ 65536 }
 {
     let mut summary = [0u64; rules::SUMMARY];
@@ -175,6 +177,7 @@ pub fn run(which: Watcher, unread: &[u8], unwritten: &[u8]) -> Session
     let mut turns = u64::MAX;
     while turns > 0 {
         s = step(
+            rt,
             which,
             unread,
             unwritten,
