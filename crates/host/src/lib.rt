@@ -1,5 +1,6 @@
 // The public calls for C. An enum and a returned part do not cross: they cross as numbers, see host_numbers.
 // Their names have the number of the interface (include/egrynnol.h): a host of another one does not link.
+// host_c exports them: a crate is a library or a static library, and not both.
 #![tactic(auto)]
 
 ghost use Rattle.rules.specs.Promises.{OfOpening, OfClock, OfRelease, OfSending};
@@ -20,8 +21,7 @@ pub struct CReceived {
 }
 
 // Opens a table from registry octets, T and the clock, and empties the summary.
-#[unsafe(no_mangle)]
-pub extern "C" fn egrynnol_4_opening(
+pub fn egrynnol_4_opening(
     m: &mut [u64; rules::SUMMARY],
     registry: &[u8],
     timer: u32,
@@ -33,8 +33,7 @@ pub extern "C" fn egrynnol_4_opening(
 }
 
 // A segment arrives at a time: the clock's work, and then the segment's.
-#[unsafe(no_mangle)]
-pub extern "C" fn egrynnol_4_arrival(
+pub fn egrynnol_4_arrival(
     t: Table,
     m: &mut [u64; rules::SUMMARY],
     store: &mut [u8],
@@ -59,8 +58,7 @@ pub extern "C" fn egrynnol_4_arrival(
 }
 
 // The clock goes on.
-#[unsafe(no_mangle)]
-pub extern "C" fn egrynnol_4_clock(
+pub fn egrynnol_4_clock(
     t: Table,
     m: &mut [u64; rules::SUMMARY],
     report: &mut [u8],
@@ -72,8 +70,7 @@ pub extern "C" fn egrynnol_4_clock(
 }
 
 // An association is released.
-#[unsafe(no_mangle)]
-pub extern "C" fn egrynnol_4_release(
+pub fn egrynnol_4_release(
     t: Table,
     m: &mut [u64; rules::SUMMARY],
     report: &mut [u8],
@@ -85,8 +82,7 @@ pub extern "C" fn egrynnol_4_release(
 }
 
 // Where the octets are that a segment delivered.
-#[unsafe(no_mangle)]
-pub extern "C" fn egrynnol_4_delivery<'a>(
+pub fn egrynnol_4_delivery<'a>(
     decision: CDecision,
     s: &'a [u8],
     store: &'a [u8],
@@ -99,8 +95,7 @@ pub extern "C" fn egrynnol_4_delivery<'a>(
 }
 
 // Writes one segment of the data.
-#[unsafe(no_mangle)]
-pub extern "C" fn egrynnol_4_sending(
+pub fn egrynnol_4_sending(
     t: Table,
     q: Request,
     origin: &[u8],
