@@ -28,10 +28,10 @@ open := (
 FUNCTIONS := $(shell sed -n 's/^[A-Za-z].*\(egrynnol_[a-z_]*\)$(open).*/\1/p' include/egrynnol.h)
 
 # the toolchain that proves and compiles this
-KIT = rattle-kit-5
+KIT = rattle-kit-13f
 
-# folders too: a file that is gone is seen by its folder's time
-SOURCES := crates.txt include/egrynnol.h $(shell find crates)
+# folders too: a file that is gone is seen by its folder's time; but not a crate's own folder, in which rt makes out/
+SOURCES := crates.txt include/egrynnol.h crates $(shell find crates -mindepth 2 -name out -prune -o -mindepth 2 -print)
 PROGRAMS = target/bin/replay target/bin/records target/bin/totals target/bin/looped
 LIBRARY = target/lib/libegrynnol.a
 # the shared object is linked by gcc, so only where gcc is for x86-64, as the library is
@@ -66,8 +66,7 @@ $(BUILT): $(SOURCES)
 	@mkdir -p target/lib
 	@touch $(BEGUN)
 	@echo "egrynnol: proving and building; the first time takes minutes; all that rt says is in $(LOG)"
-	@{ rt check $(notdir $(PROGRAMS)) && rt staticlib host; } 2>&1 | tee $(LOG) | tools/progress
-	@cp target/staticlib/libhost.a $(LIBRARY)
+	@tools/build $(notdir $(PROGRAMS)) 2>&1 | tee $(LOG) | tools/progress
 ifneq ($(SHARED),)
 	@printf '%s\n' '{ global: egrynnol_$(INTERFACE)_*; local: *; };' > target/lib/exports
 	@gcc -shared -Wl,--whole-archive $(LIBRARY) -Wl,--no-whole-archive -Wl,-soname,$(SONAME) \
@@ -116,7 +115,7 @@ peers: all
 	tools/peers
 
 clean:
-	rm -rf target
+	rm -rf target crates/*/out
 
 help:
 	@sed -n 's/^# \(make.*\)/\1/p' Makefile
