@@ -62,6 +62,7 @@ fn fault(number: u8, at: usize) -> Fault
     }
 }
 
+#[tactic(auto, unfolding(crate::specs::Fields::last_field))]
 pub fn last_field(s: &[u8], at: usize) -> LastField
     requires { length s.now ≤ parameter_most }
     ensures { result ≡ last_field s.now at }
@@ -91,6 +92,7 @@ fn known(registry: [Entry; 8], context: Context, padded: bool, last: usize) -> C
     ContextField::ContextIs(context, kind, last + 1)
 }
 
+#[tactic(auto, unfolding(crate::specs::Fields::context_field))]
 pub fn context_field(registry: [Entry; 8], s: &[u8]) -> ContextField
     requires { length s.now ≤ parameter_most }
     ensures { result ≡ context_field registry s.now }
@@ -111,6 +113,7 @@ pub fn context_field(registry: [Entry; 8], s: &[u8]) -> ContextField
     }
 }
 
+#[tactic(auto, unfolding(crate::specs::Fields::sequence_field))]
 pub fn sequence_field(s: &[u8], at: usize) -> SequenceField
     requires { length s.now ≤ parameter_most }
     ensures { result ≡ sequence_field s.now at }
@@ -153,6 +156,7 @@ pub fn sequence_field(s: &[u8], at: usize) -> SequenceField
     }
 }
 
+#[tactic(auto, unfolding(crate::specs::Fields::address_field))]
 pub fn address_field(s: &[u8], at: usize) -> AddressField
     requires { length s.now ≤ parameter_most }
     ensures { result ≡ address_field s.now at }
