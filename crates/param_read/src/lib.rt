@@ -29,6 +29,7 @@ pub enum Reading {
 }
 
 // Both addresses, where the kind has them, and where the information starts.
+#[tactic(auto, unfolding(crate::specs::Reading::addresses_field))]
 fn addresses_field(s: &[u8], kind: u8, at: usize) -> AddressesField
     requires { length s.now ≤ parameter_most }
     ensures { result ≡ addresses_field s.now kind at }
@@ -72,6 +73,7 @@ fn heading(context: Context, kind: u8, instruction: u8, q: Sequence) -> Heading
 }
 
 // The fields after the heading.
+#[tactic(auto, unfolding(crate::specs::Reading::after_addresses))]
 fn rest(s: &[u8], heading: Heading, at: usize) -> Reading
     requires { length s.now ≤ parameter_most }
     ensures { result ≡ after_addresses heading (addresses_field s.now heading.kind at) }
