@@ -4,14 +4,14 @@ use Rattle.sender.proofs.request_refusal.Goals as goal
 pub returns-then-kind-eq0 : goal.returns-then-kind-eq0
 returns-then-kind-eq0 c =
     simp (
-      c.if-not-sound.false-raw,
+      c.if-not-sound.false,
       eq-eqb _ _ c.if-kind-eq0.true,
     )
 
 pub returns-then-n-gt-DATA : goal.returns-then-n-gt-DATA
 returns-then-n-gt-DATA c =
     simp (
-      c.if-not-sound.false-raw,
+      c.if-not-sound.false,
       ne_eqb _ _ c.if-kind-eq0.false,
       lt-ltb _ _ c.if-n-gt-DATA.true,
     )
@@ -19,7 +19,7 @@ returns-then-n-gt-DATA c =
 pub returns-then-o-gt20 : goal.returns-then-o-gt20
 returns-then-o-gt20 c =
     simp (
-      c.if-not-sound.false-raw,
+      c.if-not-sound.false,
       ne_eqb _ _ c.if-kind-eq0.false,
       le-ltb _ _ c.if-n-gt-DATA.false,
       lt-ltb _ _ c.if-o-gt20.true,
@@ -28,7 +28,7 @@ returns-then-o-gt20 c =
 pub returns-then-d-gt20 : goal.returns-then-d-gt20
 returns-then-d-gt20 c =
     simp (
-      c.if-not-sound.false-raw,
+      c.if-not-sound.false,
       ne_eqb _ _ c.if-kind-eq0.false,
       le-ltb _ _ c.if-n-gt-DATA.false,
       le-ltb _ _ c.if-o-gt20.false,
@@ -38,7 +38,7 @@ returns-then-d-gt20 c =
 pub returns-then-extra : goal.returns-then-extra
 returns-then-extra c =
     simp (
-      c.if-not-sound.false-raw,
+      c.if-not-sound.false,
       ne_eqb _ _ c.if-kind-eq0.false,
       le-ltb _ _ c.if-n-gt-DATA.false,
       le-ltb _ _ c.if-o-gt20.false,
@@ -49,7 +49,7 @@ returns-then-extra c =
 pub returns-then-q-gt3 : goal.returns-then-q-gt3
 returns-then-q-gt3 c =
     simp (
-      c.if-not-sound.false-raw,
+      c.if-not-sound.false,
       ne_eqb _ _ c.if-kind-eq0.false,
       le-ltb _ _ c.if-n-gt-DATA.false,
       le-ltb _ _ c.if-o-gt20.false,
@@ -61,7 +61,7 @@ returns-then-q-gt3 c =
 pub returns-then-q-gt127 : goal.returns-then-q-gt127
 returns-then-q-gt127 c =
     simp (
-      c.if-not-sound.false-raw,
+      c.if-not-sound.false,
       ne_eqb _ _ c.if-kind-eq0.false,
       le-ltb _ _ c.if-n-gt-DATA.false,
       le-ltb _ _ c.if-o-gt20.false,
@@ -74,7 +74,7 @@ returns-then-q-gt127 c =
 pub returns : goal.returns
 returns c =
     simp (
-      c.if-not-sound.false-raw,
+      c.if-not-sound.false,
       ne_eqb _ _ c.if-kind-eq0.false,
       le-ltb _ _ c.if-n-gt-DATA.false,
       le-ltb _ _ c.if-o-gt20.false,
