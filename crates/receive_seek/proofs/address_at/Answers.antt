@@ -1,0 +1,6 @@
+use Rattle.receive_seek.proofs.Address.{address_is}
+use Rattle.receive_seek.proofs.address_at.Goals as goal
+
+pub returns : goal.returns
+returns c =
+    address_is _ c.args.a _ _ c.requires c.part.ensures c.put.ensures
