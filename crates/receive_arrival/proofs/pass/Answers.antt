@@ -1,0 +1,30 @@
+use mathlib.Core.Path.{◌≡◌}
+use lib.ListN.{length}
+use native.Mathlib.Omega.{arith}
+use Rattle.rules.specs.Numbers.{place_count}
+use Rattle.rules.specs.Sweep.{is_due}
+use Rattle.receive_sweep.proofs.Sweeping.{none-those}
+use Rattle.receive_arrival.proofs.Arriving.{sound-still, passes, passes-22}
+use Rattle.receive_arrival.proofs.pass.Goals as goal
+
+pub segment-r-requires : goal.segment-r-requires
+segment-r-requires c =
+    let a = c.args in
+    let none = (none-those (is_due a.time a.t.timer) a.t.places 0 c.requires.places_value).0 in
+    let still = sound-still a.t a.m.now a.store.now a.report.now a.time a.association a.s.now c.requires.allowed none in
+    let ok = c.requires.allowed in
+    (cc, cc)
+
+pub returns-then-r-eq22 : goal.returns-then-r-eq22
+returns-then-r-eq22 c =
+    let a = c.args in
+    let none = (none-those (is_due a.time a.t.timer) a.t.places 0 c.requires.places_value).0 in
+    let size : length a.t.places ≡ place_count = omega arith in
+    passes-22 a.t a.m.now a.store.now a.report.now a.time a.association a.s.now c.requires.allowed none size c.segment-r.ensures c.if-r-eq22.true c.refused.ensures
+
+pub returns : goal.returns
+returns c =
+    let a = c.args in
+    let none = (none-those (is_due a.time a.t.timer) a.t.places 0 c.requires.places_value).0 in
+    let size : length a.t.places ≡ place_count = omega arith in
+    passes a.t a.m.now a.store.now a.report.now a.time a.association a.s.now c.requires.allowed none size c.segment-r.ensures c.if-r-eq22.false
