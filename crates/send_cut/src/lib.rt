@@ -67,6 +67,7 @@ fn piece_size(a: usize, b: usize, k: usize) -> usize
 }
 
 // The cut of n octets into segments, and segment k's piece.
+#[tactic(auto, unfolding(crate::specs::Plan::segments_plan))]
 fn cut_segments(a: usize, b: usize, n: usize, k: usize) -> Plan
     requires a_bound { (a ≤ 255) × ((1 ≤ b) × (b ≤ 255)) }
     requires a_le_n { (a ≤ n) × (n ≤ 2048) }
@@ -89,6 +90,7 @@ fn cut_segments(a: usize, b: usize, n: usize, k: usize) -> Plan
 }
 
 // The cut of n octets by the rooms, with h octets of header.
+#[tactic(auto, unfolding(crate::specs::Plan::plan_of))]
 pub fn cut(h: usize, q: Request, n: usize) -> Plan
     requires { (h ≤ 46) × (n ≤ 2048) }
     ensures value { result ≡ plan_of h q n }
