@@ -9,6 +9,7 @@ ghost use Rattle.receive_lines.specs.Telling.{Tells};
 use rules::{Heading, Line, Remaining};
 
 // The line that applies: see the paper's seven.
+#[tactic(auto, unfolding(rules::specs::Receiving::line_of))]
 pub fn line_of(is_open: bool, before: Remaining, saved: u16, g: Heading, n: usize) -> Line
     requires { n ≤ parameter_most }
     ensures value { result ≡ line_of is_open before.0 saved g n }
