@@ -8,7 +8,6 @@ use Rattle.rules.specs.Calls.{Lent}
 use Rattle.rules.specs.Trace.{Observer}
 use Rattle.trace_events.specs.Events.{Stored, state_with}
 use Rattle.trace_events.specs.declared.Replay.{Replay}
-use Rattle.trace_turns.specs.Turns.{Walked}
 use Rattle.trace_turns.proofs.Turning.{walked_none}
 use Rattle.trace.specs.Watching.{Turned, OfTurn, turn_of, turned, resting, joined, told_most, runs}
 use Rattle.trace.specs.declared.Progress.{Progress}

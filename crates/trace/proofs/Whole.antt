@@ -6,12 +6,12 @@ use Rattle.rules.specs.Trace.{Event, Opening, Segment, Clock, Release, Item, Reg
 use Rattle.rules.specs.Trace.{Observer, watched, watching}
 use Rattle.rules.specs.Trace as trace
 use Rattle.trace_items.proofs.Items.{item_by, items-next}
-use Rattle.trace_events.specs.Events.{Stored, state_with, replay_of, step_of, keeping}
+use Rattle.trace_events.specs.Events.{Stored, state_with, step_of, keeping}
 use Rattle.trace_events.specs.declared.Replay.{Replay}
-use Rattle.trace_turns.specs.Turns.{Registering, Walked, waiting, stopping, registering, happening, at_item, walked}
+use Rattle.trace_turns.specs.Turns.{Registering, waiting, stopping, registering, happening, at_item, walked}
 use Rattle.trace_turns.proofs.Keeping.{opening-nine, Kept, kept_more}
 use Rattle.trace.specs.Watching.{Turned, turn_of, turned, resting, joined, told_most, runs, end_of}
-use Rattle.trace.specs.Whole.{Shows, begins, all_of, watched_from, Follows, ByBlocks, AtEnd, AtBeginning, behind, session, OfAll}
+use Rattle.trace.specs.Whole.{Shows, all_of, watched_from, Follows, ByBlocks, AtEnd, AtBeginning, behind, session, OfAll}
 use Rattle.trace.proofs.Running.{is_over, or-false, turned_none, runs-over, runs-more}
 
 -- what is held, with the whole registry as read
