@@ -82,11 +82,7 @@ pub fn egrynnol_4_release(
 }
 
 // Where the octets are that a segment delivered.
-pub fn egrynnol_4_delivery<'a>(
-    decision: CDecision,
-    s: &'a [u8],
-    store: &'a [u8],
-) -> CPart
+pub fn egrynnol_4_delivery<'a>(decision: CDecision, s: &'a [u8], store: &'a [u8]) -> CPart
     ensures { HostDelivery decision s.now store.now result }
 {
     let d = host_numbers::decision_of(decision);
