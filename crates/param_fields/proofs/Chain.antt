@@ -1,10 +1,10 @@
 -- A field of two octets is what its octets say, one after the other.
 use Rattle.std.specs.Prelude.{if◌then◌else◌}
-use Prim.Native.Nat.{ℕ, ◌+◌, ◌*◌, ◌%◌, ◌<◌}
+use Prim.Native.Nat.{ℕ, ◌+◌, ◌*◌, ◌%◌, ◌≤◌, ◌<◌}
 use mathlib.Core.Path.{◌≡◌, refl, sym, ap, ◌∙◌}
 use mathlib.Core.Bool.{Bool, true, false, not}
 use native.Mathlib.Omega.{arith}
-use borrow.Author.Tests.{le-ltb}
+use borrow.Author.Tests.{lt-ltb, le-ltb}
 use mathlib.Core.List.{List, [], ◌∷◌, ◌++◌}
 use lib.Dec.{eqb, leb, ltb}
 use lib.ListN.{length}
@@ -24,7 +24,10 @@ use Rattle.param_fields.specs.declared.ContextField.TheVariants.{ContextIs, NoCo
 use Rattle.param_fields.specs.declared.SequenceField.{SequenceField}
 use Rattle.param_fields.specs.declared.SequenceField.TheVariants.{SequenceIs, NoSequence}
 
--- an octet that is there: the code compares its position
+-- an octet that is not there, or is: the code compares its position
+pub cut : (n at : ℕ) → n ≤ at → ltb n (at + 1) ≡ true
+cut n at h = lt-ltb n (at + 1) (omega (arith, h))
+
 pub uncut : (n at : ℕ) → at < n → ltb n (at + 1) ≡ false
 uncut n at h = le-ltb n (at + 1) (omega (arith, h))
 
@@ -50,6 +53,10 @@ abbrev eight : List Entry → ℕ → ℕ → Check
 eight registry x last = 8 when eqb (kind_of registry x) 0 blaming last
 
 module _ (registry : List Entry) (s : List ℕ) (there : ltb (length s) 1 ≡ false) where
+  pub context-one : leb 128 (octet s 0) ≡ true → context_field registry s ≡ known_field registry (record { 0 = octet s 0 % 128 }) false 0
+  unfolding context_field
+  context-one e = simp (there, e) (judged-one (eight registry (octet s 0 % 128) 0) NoContext _)
+
   pub context-two : leb 128 (octet s 0) ≡ false → context_field registry s ≡ after1a registry (octet s 0) (last_field s 1)
   unfolding context_field last_field
   context-two e =

@@ -38,6 +38,10 @@ abbrev pub after_origin : List ℕ → AddressField → AddressesField
 after_origin s (NoAddress e) = NoAddresses e
 after_origin s (AddressIs o past) = after_destination o (address_field s past)
 
+pub addresses-none : (s : List ℕ) (kind at : ℕ) → eqb kind 2 ≡ false → addresses_field s kind at ≡ AddressesAre (record { origin = record { at = 0; length = 0 }; destination = record { at = 0; length = 0 }; information = at })
+unfolding addresses_field
+addresses-none s kind at e = simp e
+
 pub addresses-both : (s : List ℕ) (kind at : ℕ) → eqb kind 2 ≡ true → addresses_field s kind at ≡ after_origin s (address_field s at)
 unfolding addresses_field address_field
 addresses-both s kind at e =

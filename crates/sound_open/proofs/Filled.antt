@@ -44,6 +44,18 @@ at_most [] m o = le-leb 0 (most_of m) (omega arith) ∙ sym (none_left is_zero m
 at_most (x ∷ l) zero o = first-nought x (little l) ∙ ap (λ (b : Bool). eqb x 0 && b) (at_most l zero o.1)
 at_most (x ∷ l) (suc m) o = first_any x (little l) (most_of m) o.0 ∙ at_most l m o.1
 
+-- what is none of the numbers below eight
+pub eight-least : (m : ℕ) → (m ≡ 0 → ⊥) → (m ≡ 1 → ⊥) → (m ≡ 2 → ⊥) → (m ≡ 3 → ⊥) → (m ≡ 4 → ⊥) → (m ≡ 5 → ⊥) → (m ≡ 6 → ⊥) → (m ≡ 7 → ⊥) → 8 ≤ m
+eight-least zero h0 h1 h2 h3 h4 h5 h6 h7 = absurd (h0 refl)
+eight-least (suc zero) h0 h1 h2 h3 h4 h5 h6 h7 = absurd (h1 refl)
+eight-least (suc (suc zero)) h0 h1 h2 h3 h4 h5 h6 h7 = absurd (h2 refl)
+eight-least (suc (suc (suc zero))) h0 h1 h2 h3 h4 h5 h6 h7 = absurd (h3 refl)
+eight-least (suc (suc (suc (suc zero)))) h0 h1 h2 h3 h4 h5 h6 h7 = absurd (h4 refl)
+eight-least (suc (suc (suc (suc (suc zero))))) h0 h1 h2 h3 h4 h5 h6 h7 = absurd (h5 refl)
+eight-least (suc (suc (suc (suc (suc (suc zero)))))) h0 h1 h2 h3 h4 h5 h6 h7 = absurd (h6 refl)
+eight-least (suc (suc (suc (suc (suc (suc (suc zero))))))) h0 h1 h2 h3 h4 h5 h6 h7 = absurd (h7 refl)
+eight-least (suc (suc (suc (suc (suc (suc (suc (suc m)))))))) h0 h1 h2 h3 h4 h5 h6 h7 = omega arith
+
 -- of eight octets none is left from any index over 8 on
 pub drop-capped : (l : List ℕ) (m : ℕ) → length l ≤ 8 → drop (capped m) l ≡ drop m l
 drop-capped l m h = go (ltb m 8) refl
