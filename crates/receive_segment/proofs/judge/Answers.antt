@@ -3,6 +3,7 @@ use Prim.Native.Nat.{ℕ}
 use native.Mathlib.Omega.{arith}
 use lib.ListN.{drop}
 use borrow.Author.Tests.{lt-ltb, le-ltb}
+use Rattle.rules.specs.Records.{record_length}
 use Rattle.rules.specs.Refusals.{unplaced}
 use Rattle.rules.specs.Receiving.{information_of}
 use Rattle.rules.specs.declared.Key.{Key}
@@ -39,7 +40,7 @@ pub returns-in-Refused : goal.returns-in-Refused
 returns-in-Refused c =
     let a = c.args in
     refused-verdict a.t a.q.search.at c.in-Refused.fault a.q.key a.held _ c.requires.at_lt_place_count.1 c.refused-in-Refused.ensures a.store a.report a.association a.s.now (read_number a.t.registry a.s.now _ (sym c.requires.reading_value.0 ∙ c.in-Refused.is))
-    (λ st rp g h. segment-is a.t st rp a.association a.s.now _ _ g h ∙ simp (sym c.requires.is_sound_value ∙ c.if-not-is_sound.false, le-ltb _ _ c.if-store-lt-STORE.false, le-ltb _ _ c.if-report-lt-RECORD.false, sym c.requires.reading_value.0 ∙ c.in-Refused.is))
+    (λ st rp g h. segment-is a.t st rp a.association a.s.now _ _ g h ∙ simp (sym c.requires.is_sound_value ∙ c.if-not-is_sound.false, le-ltb _ _ c.if-store-lt-STORE.false, le-ltb a.report record_length (omega arith), sym c.requires.reading_value.0 ∙ c.in-Refused.is))
 
 pub returns-in-Read : goal.returns-in-Read
 returns-in-Read c =
@@ -50,7 +51,7 @@ returns-in-Read c =
       leads = λ st rp g h.
           leads-as
           (ap (λ (k : Key). arrival a.t st rp k f (information_of a.s.now f)) q.key-is
-          ∙ sym (segment-is a.t st rp a.association a.s.now _ _ g h ∙ simp (sym c.requires.is_sound_value ∙ c.if-not-is_sound.false, le-ltb _ _ c.if-store-lt-STORE.false, le-ltb _ _ c.if-report-lt-RECORD.false, sym c.requires.reading_value.0 ∙ c.in-Read.is)))
+          ∙ sym (segment-is a.t st rp a.association a.s.now _ _ g h ∙ simp (sym c.requires.is_sound_value ∙ c.if-not-is_sound.false, le-ltb _ _ c.if-store-lt-STORE.false, le-ltb a.report record_length (omega arith), sym c.requires.reading_value.0 ∙ c.in-Read.is)))
           (c.arrive.ensures.by_index st rp);
       fits = c.arrive.ensures.by_index_2 _ c.if-store-lt-STORE.false;
       taken = λ z.
