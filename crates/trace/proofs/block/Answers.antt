@@ -2,6 +2,11 @@ use Rattle.std.proofs.Common.{arith}
 use Rattle.trace.proofs.Running.{going-starts, going-full, used-within, written-within, going-over, less-left, going_on}
 use Rattle.trace.proofs.block.Goals as goal
 
+pub loop-out-smaller : goal.loop-out-smaller
+loop-out-smaller c =
+    let l = c.loop-out in
+    less-left _ l.invariant c.loop-out-test.true c.step-t.result _ _ _ c.step-t.ensures.of_turn c.step-t.ensures.used_in_bounds.0 c.step-t.ensures.used_in_bounds.1 c.if-over.false
+
 pub loop-out-init : goal.loop-out-init
 loop-out-init c = going-starts _ _ _ _ _ _ _
 
@@ -24,11 +29,6 @@ pub returns-then-over-clause-used_in_bounds : goal.returns-then-over-clause-used
 returns-then-over-clause-used_in_bounds c =
     let l = c.loop-out in
     (used-within _ l.invariant c.loop-out-test.true c.step-t.result _ _ _ c.step-t.ensures.of_turn c.step-t.ensures.used_in_bounds.0 c.step-t.ensures.used_in_bounds.1, written-within _ l.invariant c.loop-out-test.true c.step-t.result _ _ _ c.step-t.ensures.of_turn c.step-t.ensures.used_in_bounds.0 c.step-t.ensures.used_in_bounds.1)
-
-pub loop-out-smaller : goal.loop-out-smaller
-loop-out-smaller c =
-    let l = c.loop-out in
-    less-left _ l.invariant c.loop-out-test.true c.step-t.result _ _ _ c.step-t.ensures.of_turn c.step-t.ensures.used_in_bounds.0 c.step-t.ensures.used_in_bounds.1 c.if-over.false
 
 pub loop-out-preserved : goal.loop-out-preserved
 loop-out-preserved c =
