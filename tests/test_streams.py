@@ -165,12 +165,12 @@ class Cases(Streams):
                 self.fails(name, "write", errno.EAGAIN, self.run_on(command, self.file(good), stdout=writer))
 
     def test_output_that_nobody_reads(self):
-        """The system ends the program, as it does any that writes to such a pipe."""
+        """A failure as any other: a program of Rattle ignores SIGPIPE from its start on, and cannot be written not to."""
         for name, command, good, _ in PROGRAMS:
             with self.subTest(name):
                 reader, writer = self.pipe()
                 reader.close()
-                self.assertEqual(self.run_on(command, self.file(good), stdout=writer), (b"", "", -signal.SIGPIPE))
+                self.fails(name, "write", errno.EPIPE, self.run_on(command, self.file(good), stdout=writer))
 
     def test_standard_error_that_is_full(self):
         """There is nowhere to tell it, and the program ends all the same."""
