@@ -2,7 +2,7 @@
 use Prim.Native.Nat.{ℕ, ◌≤◌}
 use mathlib.Core.Path.{◌≡◌}
 use mathlib.Core.Bool.{Bool, true, and-eq-true_iff}
-use mathlib.Core.List.{List}
+use mathlib.Core.List.{List, [], ◌∷◌}
 use native.Mathlib.Omega.{arith}
 use borrow.Author.Tests.{ltb-false, not-true}
 use lib.ListN.{length}
@@ -21,6 +21,11 @@ use Rattle.rules.proofs.Few.{Few, arrival-few}
 use Rattle.trace_events.specs.Events.{Stored, replay_of, step_of, OfEvent}
 use Rattle.trace_events.specs.declared.Replay.{Replay}
 use Rattle.rules.specs.declared.Received.{Received}
+use Rattle.trace_events.specs.contracts.Replay.{the_type}
+use Rattle.trace_events.proofs.Replay.TheLaws.{the_laws}
+use denote.Laws.{Is}
+use denote.Struct.Declared.{row}
+use denote.Struct.Laws.{val}
 
 -- a sweep makes at most one a place
 sweep-fits : (test : Place → Bool) (cause time : ℕ) (t : Table) (report : List ℕ) → length t.places ≡ place_count → report_least ≤ length report
@@ -55,6 +60,10 @@ event-fits held store lent (Release association) n =
     release-by held.table store.summary lent.report association (λ (o : Sweeping). Few o.answer.records o.report)
     (λ e. sweep-fits _ 7 held.table.clock held.table lent.report n (release-room held.table lent.report (release-accepted held.table store.summary lent.report association e).own))
     (λ e. none-fits lent.report)
+
+-- what owning a replay tells: its table has 16 places
+pub places-held : (held : Replay) → Is (row the_type) held (val the_type the_laws held ∷ []) → length held.table.places ≡ place_count
+places-held held g = g.1.1.1.1.0.1.1.0.1.0.1
 
 pub answer-fits : (held : Replay) (store : Stored) (lent : Lent) (e : Event) (answer : Received) (store' : Stored) (lent' : Lent) → length held.table.places ≡ place_count
     → OfEvent held store lent e answer store' lent' → Few answer.records lent'.report
