@@ -1,4 +1,5 @@
 -- From the promise of each call to what is demanded of it: what is seen of it is what the rules show.
+use Rattle.std.specs.Prelude.{Option, Some, None}
 use Prim.Native.Nat.{ℕ, ◌<◌, ◌^◌}
 use native.Mathlib.Omega.{arith}
 use borrow.Author.Tests.{ne_eqb}
@@ -19,8 +20,6 @@ use Rattle.rules.specs.declared.Key.{Key}
 use Rattle.rules.specs.declared.Place.{Place}
 use Rattle.rules.specs.declared.Table.{Table}
 use Rattle.rules.specs.declared.Fields.{Fields}
-use Rattle.rules.specs.declared.Found.{Found}
-use Rattle.rules.specs.declared.Found.TheVariants.{At, Nothing}
 use Rattle.rules.specs.declared.Line.{Line}
 use Rattle.rules.specs.declared.Line.TheVariants.{Unsegmented, Broken, Restart, Start, Final, Next}
 use Rattle.rules.specs.declared.Request.{Request}
@@ -89,12 +88,12 @@ handed-back (Lost cause found) s store = refl
 place-back : (k : Key) (ps : List Place) → length ps ≡ place_count → found_at (number_of (place_of k ps)) ≡ place_of k ps
 place-back k ps sixteen = go (place_of k ps) (place_is k ps)
   where
-    go : (f : Found) → IsFirst (holds k) ps f → found_at (number_of f) ≡ f
-    go (At i) h = rw (ne_eqb i place_count (λ e. omega (arith, h.0)))
-    go Nothing h = refl
+    go : (f : Option ℕ) → IsFirst (holds k) ps f → found_at (number_of f) ≡ f
+    go (Some i) h = rw (ne_eqb i place_count (λ e. omega (arith, h.0)))
+    go None h = refl
 
 -- so does the decision of each line
-line-back : (line : Line) (t : Table) (store : List ℕ) (k : Key) (f : Fields) (octets : List ℕ) (found : Found) (p : Place) (vacant : Found) → found_at (number_of found) ≡ found
+line-back : (line : Line) (t : Table) (store : List ℕ) (k : Key) (f : Fields) (octets : List ℕ) (found : Option ℕ) (p : Place) (vacant : Option ℕ) → found_at (number_of found) ≡ found
     → decision_of (c_decision_of (effect_of line t store k f octets found p vacant).decision) ≡ (effect_of line t store k f octets found p vacant).decision
 unfolding effect_of
 line-back Unsegmented t store k f octets found p vacant e = refl

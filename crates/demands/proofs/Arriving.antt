@@ -1,5 +1,5 @@
 -- What a segment does that reads as a heading, an address and information.
-use Rattle.std.specs.Prelude.{if◌then◌else◌}
+use Rattle.std.specs.Prelude.{if◌then◌else◌, Option, Some}
 use Prim.Native.Nat.{ℕ, ◌+◌, ◌≤◌, ◌<◌}
 use mathlib.Core.Path.{◌≡◌, ap, ◌∙◌}
 use mathlib.Core.Bool.{Bool, true, false, not, ◌&&◌}
@@ -26,8 +26,6 @@ use Rattle.rules.specs.declared.Table.{Table}
 use Rattle.rules.specs.declared.Heading.{Heading}
 use Rattle.rules.specs.declared.Fields.{Fields}
 use Rattle.rules.specs.declared.Record.{Record}
-use Rattle.rules.specs.declared.Found.{Found}
-use Rattle.rules.specs.declared.Found.TheVariants.{At}
 use Rattle.rules.specs.declared.Line.{Line}
 use Rattle.rules.specs.declared.Line.TheVariants.{Unsegmented, Restart, Start, Final, Next}
 use Rattle.rules.proofs.Places.{IsFirst}
@@ -109,12 +107,12 @@ module _ (t : Table) (store report : List ℕ) (association : ℕ) (s : List ℕ
         accepted-append (summary_checks m t.places) (segment_checks t store report association s ++ last)
         ∙ rw (sums, accepted-append (segment_checks t store report association s) last, e) counts
 
-    pub arrives : (place free : Found) → place_of (key_for association g o d) t.places ≡ place → lowest_free t.places ≡ free → (l : Line)
+    pub arrives : (place free : Option ℕ) → place_of (key_for association g o d) t.places ≡ place → lowest_free t.places ≡ free → (l : Line)
         → line_of (is_at place) (place_at t.places place).remaining.0 (place_at t.places place).octets g (length info) ≡ l → (is_start l && not (is_at free)) ≡ false
         → (segment_with t m store report association s).call
         ≡ reception_of t report (effect_of l t store (key_for association g o d) fields info place (place_at t.places place) free)
     arrives place free there open_is l line starts =
-        let by : Found → Line = λ f. line_of (is_at f) (place_at t.places f).remaining.0 (place_at t.places f).octets g (length info) in
+        let by : Option ℕ → Line = λ f. line_of (is_at f) (place_at t.places f).remaining.0 (place_at t.places f).octets g (length info) in
         let same : at (key_for association g o d) g info ≡ l = ap by there ∙ line in
         segment-is t m store report association s (accepts-with (accepts (rw (same, open_is) starts))) ∙ received_is
         ∙ (λ i. reception_of t report (effect_of (same i) t store (key_for association g o d) fields info (there i) (place_at t.places (there i)) (open_is i)))
@@ -136,7 +134,7 @@ joined_back store m at saved info e held fits =
     )
 
 pub mine-first : (k : Key) (ps : List Place) (m : ℕ) (q : Place) → m < length ps → ((j : ℕ) → j < m → holds k (get_or ps j no_place) ≡ false) → holds k q ≡ true
-    → IsFirst (holds k) (set ps m q) (At m)
+    → IsFirst (holds k) (set ps m q) (Some m)
 mine-first k ps m q inside before yours = (
   simp length-set inside,
   ap (holds k) (get_or-set_same ps m q no_place inside) ∙ yours,

@@ -1,5 +1,5 @@
 -- BALANCE of the machine that the rules are: of every association, what was taken is what the records cover and what its open places hold.
-use Rattle.std.specs.Prelude.{if◌then◌else◌}
+use Rattle.std.specs.Prelude.{if◌then◌else◌, Option, Some, None}
 use Prim.Native.Nat.{ℕ, zero, suc, ◌+◌, ◌<◌}
 use mathlib.Core.Path.{◌≡◌, refl, sym, ap, ◌∙◌}
 use mathlib.Core.Bool.{Bool, true, false, not, ◌&&◌, and-eq-true_iff, true≢false}
@@ -23,8 +23,6 @@ use Rattle.rules.specs.declared.Place.{Place}
 use Rattle.rules.specs.declared.Table.{Table}
 use Rattle.rules.specs.declared.Fields.{Fields}
 use Rattle.rules.specs.declared.Record.{Record}
-use Rattle.rules.specs.declared.Found.{Found}
-use Rattle.rules.specs.declared.Found.TheVariants.{At, Nothing}
 use Rattle.rules.specs.declared.Opened.{Opened}
 use Rattle.rules.specs.declared.Line.{Line}
 use Rattle.rules.specs.declared.Line.TheVariants.{Unsegmented, Broken, Restart, Start, Final, Next}
@@ -149,41 +147,41 @@ module _ (w : Bool) (b : ℕ) (t : Table) (store : List ℕ) (k : Key) (f : Fiel
           ≡ ((if own then pick w (p.segments + 1) (p.octets + length octets) else 0) + 0) + held_by w b (set t.places i free_place)
       freed-even = put-even free_place saved 0 _ _ (own-weight w b k p op) (nought own) (add-zero _) (omega (arith, pick_more w p.segments p.octets (length octets)))
 
-      broken-even : (cause : ℕ) (vacant : Found) → Even (effect_of (Broken cause) t store k f octets (At i) p vacant)
+      broken-even : (cause : ℕ) (vacant : Option ℕ) → Even (effect_of (Broken cause) t store k f octets (Some i) p vacant)
       unfolding effect_of
       broken-even cause vacant = freed-even
 
-      final-even : (vacant : Found) → Even (effect_of Final t store k f octets (At i) p vacant)
+      final-even : (vacant : Option ℕ) → Even (effect_of Final t store k f octets (Some i) p vacant)
       unfolding effect_of
       final-even vacant = freed-even
 
-      restart-even : (vacant : Found) → Even (effect_of Restart t store k f octets (At i) p vacant)
+      restart-even : (vacant : Option ℕ) → Even (effect_of Restart t store k f octets (Some i) p vacant)
       unfolding effect_of
       restart-even vacant = put-even (begun t.clock k f.heading (length octets)) saved one saved _ (own-weight w b k p op) refl (add-zero _) refl
 
-      next-even : (vacant : Found) → Even (effect_of Next t store k f octets (At i) p vacant)
+      next-even : (vacant : Option ℕ) → Even (effect_of Next t store k f octets (Some i) p vacant)
       unfolding effect_of
       next-even vacant =
           put-even (longer p k f.heading (length octets)) saved (pick w (p.segments + 1) (p.octets + length octets)) 0 0 (own-weight w b k p op) refl (nought own)
           (omega (arith, pick_more w p.segments p.octets (length octets)))
 
-    start-even : is_free p ≡ true → (place : Found) (q : Place) → Even (effect_of Start t store k f octets place q (At i))
+    start-even : is_free p ≡ true → (place : Option ℕ) (q : Place) → Even (effect_of Start t store k f octets place q (Some i))
     unfolding effect_of
     start-even e place q =
         let mark = eqb-true p.mark 0 e in
         put-even (begun t.clock k f.heading (length octets)) 0 one 0 0 (rw (ne_eqb p.mark 1 (omega arith)) (nought own)) refl (nought own) (omega arith)
 
-  unsegmented-even : (place : Found) (q : Place) (vacant : Found) → Even (effect_of Unsegmented t store k f octets place q vacant)
+  unsegmented-even : (place : Option ℕ) (q : Place) (vacant : Option ℕ) → Even (effect_of Unsegmented t store k f octets place q vacant)
   unfolding effect_of
   unsegmented-even place q vacant = alone-even one refl
 
-  lone-even : (cause : ℕ) (vacant : Found) → Even (effect_of (Broken cause) t store k f octets Nothing free_place vacant)
+  lone-even : (cause : ℕ) (vacant : Option ℕ) → Even (effect_of (Broken cause) t store k f octets None free_place vacant)
   unfolding effect_of
   lone-even cause vacant = alone-even (pick w (0 + 1) (0 + length octets)) (omega (arith, pick_more w 0 0 (length octets), pick-none w))
 
-  starts-even : (vacant : Found) → IsFirst is_free t.places vacant → not (is_at vacant) ≡ false → Even (effect_of Start t store k f octets Nothing free_place vacant)
-  starts-even (At i) h e = start-even i h.0 h.1 Nothing free_place
-  starts-even Nothing h e = absurd (true≢false e)
+  starts-even : (vacant : Option ℕ) → IsFirst is_free t.places vacant → not (is_at vacant) ≡ false → Even (effect_of Start t store k f octets None free_place vacant)
+  starts-even (Some i) h e = start-even i h.0 h.1 None free_place
+  starts-even None h e = absurd (true≢false e)
 
   -- every line
   segment-even : let line : Line = line_at t k f.heading (length octets) in
@@ -191,24 +189,24 @@ module _ (w : Bool) (b : ℕ) (t : Table) (store : List ℕ) (k : Key) (f : Fiel
       → Even (effect_of line t store k f octets (place_of k t.places) (place_at t.places (place_of k t.places)) (lowest_free t.places))
   segment-even = go (place_of k t.places) (place_is k t.places)
     where
-      go : (place : Found) → IsFirst (holds k) t.places place
+      go : (place : Option ℕ) → IsFirst (holds k) t.places place
           → let q : Place = place_at t.places place in
           let line : Line = line_of (is_at place) q.remaining.0 q.octets f.heading (length octets) in
           (is_start line && not (is_at (lowest_free t.places))) ≡ false → Even (effect_of line t store k f octets place q (lowest_free t.places))
-      go (At i) h =
+      go (Some i) h =
           let q : Place = get_or t.places i no_place in
-          line-cases (λ (line : Line). (is_start line && not (is_at (lowest_free t.places))) ≡ false → Even (effect_of line t store k f octets (At i) q (lowest_free t.places)))
+          line-cases (λ (line : Line). (is_start line && not (is_at (lowest_free t.places))) ≡ false → Even (effect_of line t store k f octets (Some i) q (lowest_free t.places)))
           true q.remaining.0 q.octets f.heading (length octets)
-          (λ a e. unsegmented-even (At i) q (lowest_free t.places))
+          (λ a e. unsegmented-even (Some i) q (lowest_free t.places))
           (λ cause l s e. broken-even i h.0 h.1 cause (lowest_free t.places))
           (λ s o e. restart-even i h.0 h.1 (lowest_free t.places))
           (λ s o e. absurd (true≢false o))
           (λ s o l e. final-even i h.0 h.1 (lowest_free t.places))
           (λ s o l e. next-even i h.0 h.1 (lowest_free t.places))
-      go Nothing h =
-          line-cases (λ (line : Line). (is_start line && not (is_at (lowest_free t.places))) ≡ false → Even (effect_of line t store k f octets Nothing free_place (lowest_free t.places)))
+      go None h =
+          line-cases (λ (line : Line). (is_start line && not (is_at (lowest_free t.places))) ≡ false → Even (effect_of line t store k f octets None free_place (lowest_free t.places)))
           false 0 0 f.heading (length octets)
-          (λ a e. unsegmented-even Nothing free_place (lowest_free t.places))
+          (λ a e. unsegmented-even None free_place (lowest_free t.places))
           (λ cause l s e. lone-even cause (lowest_free t.places))
           (λ s o e. absurd (true≢false (sym o)))
           (λ s o e. starts-even (lowest_free t.places) (free-is t.places) e)

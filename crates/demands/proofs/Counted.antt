@@ -1,4 +1,5 @@
 -- Every call hands a sound summary back sound.
+use Rattle.std.specs.Prelude.{Option, Some, None}
 use Prim.Native.Nat.{ℕ, ◌<◌, ◌^◌}
 use mathlib.Core.Path.{◌≡◌, refl, ◌∙◌}
 use mathlib.Core.Bool.{Bool, true, false, not, ◌||◌, true≢false}
@@ -16,8 +17,6 @@ use Rattle.rules.specs.declared.Key.{Key}
 use Rattle.rules.specs.declared.Place.{Place}
 use Rattle.rules.specs.declared.Table.{Table}
 use Rattle.rules.specs.declared.Fields.{Fields}
-use Rattle.rules.specs.declared.Found.{Found}
-use Rattle.rules.specs.declared.Found.TheVariants.{At, Nothing}
 use Rattle.rules.specs.declared.Line.{Line}
 use Rattle.rules.specs.declared.Line.TheVariants.{Unsegmented, Broken, Restart, Start, Final, Next}
 use Rattle.rules.specs.declared.Record.{Record}
@@ -31,9 +30,9 @@ use Rattle.demands.proofs.Parts.{segmented, arrival-state}
 
 -- a place that is put has its row, or is free
 module _ (m : List ℕ) where
-  put-seats : (ps : List Place) (f : Found) (p : Place) → is_seated m p ≡ true → every (is_seated m) ps ≡ true → every (is_seated m) (put_place ps f p) ≡ true
-  put-seats ps (At i) p e h = every_set (is_seated m) ps i p e h
-  put-seats ps Nothing p e h = h
+  put-seats : (ps : List Place) (f : Option ℕ) (p : Place) → is_seated m p ≡ true → every (is_seated m) ps ≡ true → every (is_seated m) (put_place ps f p) ≡ true
+  put-seats ps (Some i) p e h = every_set (is_seated m) ps i p e h
+  put-seats ps None p e h = h
 
   free-seated : is_seated m free_place ≡ true
   free-seated = refl
@@ -46,7 +45,7 @@ module _ (m : List ℕ) where
       go false = refl
 
   -- what a line puts is of its own association
-  effect-seats : (line : Line) (t : Table) (store : List ℕ) (key : Key) (f : Fields) (octets : List ℕ) (place : Found) (p : Place) (vacant : Found)
+  effect-seats : (line : Line) (t : Table) (store : List ℕ) (key : Key) (f : Fields) (octets : List ℕ) (place : Option ℕ) (p : Place) (vacant : Option ℕ)
       → is_at (row_of m key.association) ≡ true → every (is_seated m) t.places ≡ true → every (is_seated m) (effect_of line t store key f octets place p vacant).places ≡ true
   unfolding effect_of
   effect-seats Unsegmented t store key f octets place p vacant row h = h

@@ -1,5 +1,5 @@
 -- TWO EXCHANGES BEHIND ONE GATEWAY: each one's segments spare the other's key, and of two free places each takes one at most.
-use Rattle.std.specs.Prelude.{if◌then◌else◌}
+use Rattle.std.specs.Prelude.{if◌then◌else◌, Option, Some, None}
 use Prim.Native.Nat.{ℕ, zero, suc, ◌≤◌, ◌<◌}
 use mathlib.Core.Path.{◌≡◌, refl, sym, ap, ◌∙◌, subst}
 use mathlib.Core.Bool.{Bool, true, false, ◌||◌, and-eq-true_iff}
@@ -15,8 +15,6 @@ use Rattle.rules.specs.Sweep.{sweep, is_due}
 use Rattle.rules.specs.Calls.{State, Arrival, Call, step}
 use Rattle.rules.specs.declared.Key.{Key}
 use Rattle.rules.specs.declared.Place.{Place}
-use Rattle.rules.specs.declared.Found.{Found}
-use Rattle.rules.specs.declared.Found.TheVariants.{At, Nothing}
 use Rattle.rules.proofs.Places.{IsFirst, place_is, free-is}
 use Rattle.rules.proofs.Own.{own_of, own_place, own-place}
 use Rattle.demands.specs.Machine.{ours, clocked_by, InRange, Typed}
@@ -61,10 +59,10 @@ can-take x st at typed o = go (lowest_free ps) (free-is ps) (is_at (place_of (ke
         let c = o.inside in
         omega arith
 
-    go : (f : Found) → IsFirst is_free ps f → (b : Bool) → (b || is_at f) ≡ true
+    go : (f : Option ℕ) → IsFirst is_free ps f → (b : Bool) → (b || is_at f) ≡ true
     go f h true = refl
-    go (At m) h false = refl
-    go Nothing h false = absurd (clash (clock-free st (arrival_in x 0 at) o.place o.free) (h o.place inside))
+    go (Some m) h false = refl
+    go None h false = absurd (clash (clock-free st (arrival_in x 0 at) o.place o.free) (h o.place inside))
 
 -- one for each first segment that is to come
 record Room (i j : ℕ) (st : State) : Type 0 where
@@ -104,7 +102,7 @@ module _ (st : State) (c : Call) (range : InRange c) (typed : Typed st.table) wh
   room-kept i j none r = record { one = λ e. one_kept none (r.one e); two = λ e. one_kept none (r.two e); both = λ e f. two-kept none (r.both e f) }
 
   -- a call that takes one place at most leaves one of two
-  one_left : (own : Found) → ((p : ℕ) → (own ≡ At p → ⊥) → FreeAt st p → FreeAt st' p) → TwoFree st → OneFree st'
+  one_left : (own : Option ℕ) → ((p : ℕ) → (own ≡ Some p → ⊥) → FreeAt st p → FreeAt st' p) → TwoFree st → OneFree st'
   one_left own others t = go (eqb (number_of own) t.one) refl
     where
       go : (b : Bool) → eqb (number_of own) t.one ≡ b → OneFree st'
@@ -191,10 +189,10 @@ module _ (x : Shipment) (can : CanBeSent x) (st : State) where
         go (suc i) comes vacant s more = ((came-later (suc i) (omega arith) (omega arith) comes s).0 more).1
 
     -- the place that it takes, after its clock work
-    abbrev own : ℕ → Found
+    abbrev own : ℕ → Option ℕ
     own i = own_place (clocked_by st (y i)).table x.association (segment_of x i)
 
-    others-free : (i p : ℕ) → (own i ≡ At p → ⊥) → FreeAt st p → FreeAt (left i) p
+    others-free : (i p : ℕ) → (own i ≡ Some p → ⊥) → FreeAt st p → FreeAt (left i) p
     others-free i p apart free =
         let later = clock-free st (y i) p free in
         arrival-state st (y i) (λ (s : State). FreeAt s p) free (λ e. later)
@@ -205,12 +203,12 @@ module _ (x : Shipment) (can : CanBeSent x) (st : State) where
     takes_none i under comes was p free =
         let u = underway-clocked x (all-facts x can) st (y i) i was comes.spares in
         let ps : List Place = (clocked_by st (y i)).table.places in
-        let mine : own i ≡ At u.place =
-        ap (λ (k : Key). own_of (place_of k ps) (lowest_free ps)) (own_key x can (clocked_by st (y i)) u.ready i under) ∙ ap (λ (f : Found). own_of f (lowest_free ps)) u.there in
+        let mine : own i ≡ Some u.place =
+        ap (λ (k : Key). own_of (place_of k ps) (lowest_free ps)) (own_key x can (clocked_by st (y i)) u.ready i under) ∙ ap (λ (f : Option ℕ). own_of f (lowest_free ps)) u.there in
         let first = subst (IsFirst (holds (key_in x)) ps) u.there (place_is (key_in x) ps) in
         let taken = eqb-true (get_or ps u.place no_place).mark 1 ((and-eq-true_iff _ _).0 first.1).0 in
         let untaken = eqb-true (get_or ps p no_place).mark 0 (clock-free st (y i) p free) in
-        others-free i p (λ e. let same = ap (λ (f : Found). (get_or ps (number_of f) no_place).mark) (sym mine ∙ e) in omega arith) free
+        others-free i p (λ e. let same = ap (λ (f : Option ℕ). (get_or ps (number_of f) no_place).mark) (sym mine ∙ e) in omega arith) free
 
     room-on : (i j : ℕ) → i < count_in x → Comes x st i at → Standing x i st → Room i j st → Room (suc i) j (left i)
     room-on i j under comes s r = record { one = λ e. absurd (omega arith); two = go i under comes s r; both = λ e f. absurd (omega arith) }

@@ -1,5 +1,5 @@
 -- DEMAND 3 of the machine that the rules are: the state and the history that led there agree, and every call keeps them so.
-use Rattle.std.specs.Prelude.{if◌then◌else◌}
+use Rattle.std.specs.Prelude.{if◌then◌else◌, Option}
 use Prim.Native.Nat.{ℕ, ◌+◌, ◌-◌, ◌*◌, ◌≤◌, ◌<◌, ◌^◌}
 use mathlib.Core.Path.{◌≡◌, refl, sym, ap, ap₂, subst, ◌∙◌}
 use mathlib.Core.Bool.{Bool, true, false, not, and-eq-true_iff, true≢false}
@@ -29,7 +29,6 @@ use Rattle.rules.specs.declared.Place.{Place}
 use Rattle.rules.specs.declared.Table.{Table}
 use Rattle.rules.specs.declared.Fields.{Fields}
 use Rattle.rules.specs.declared.Record.{Record}
-use Rattle.rules.specs.declared.Found.{Found}
 use Rattle.rules.specs.declared.Line.{Line}
 use Rattle.rules.specs.declared.Opened.{Opened}
 use Rattle.rules.specs.declared.Fault.{Fault}
@@ -183,7 +182,7 @@ module _ (st : State) (h : Told) (inv : Inv st h) where
     effect =
         let f : Fields = fields_of t.registry s in
         let k : Key = key_by t.registry in
-        let place : Found = place_of k t.places in
+        let place : Option ℕ = place_of k t.places in
         effect_of (line_at t k f.heading (length (information_of s f))) t store k f (information_of s f) place (place_at t.places place) (lowest_free t.places)
 
     -- the state that it leaves

@@ -1,5 +1,5 @@
 -- DEMAND 2 of the machine that the rules are: what was cut comes back.
-use Rattle.std.specs.Prelude.{if◌then◌else◌}
+use Rattle.std.specs.Prelude.{if◌then◌else◌, Option, Some, None}
 use Prim.Native.Nat.{ℕ, zero, suc, ◌+◌, ◌-◌, ◌*◌, ◌≤◌, ◌<◌}
 use mathlib.Core.Path.{◌≡◌, refl, sym, ap, ◌∙◌, subst}
 use mathlib.Core.Bool.{Bool, true, false, not, ◌&&◌, ◌||◌}
@@ -30,8 +30,6 @@ use Rattle.rules.specs.declared.Key.{Key}
 use Rattle.rules.specs.declared.Place.{Place}
 use Rattle.rules.specs.declared.Heading.{Heading}
 use Rattle.rules.specs.declared.Fields.{Fields}
-use Rattle.rules.specs.declared.Found.{Found}
-use Rattle.rules.specs.declared.Found.TheVariants.{At, Nothing}
 use Rattle.rules.specs.declared.Line.{Line}
 use Rattle.rules.specs.declared.Line.TheVariants.{Unsegmented, Restart, Start, Final, Next}
 use Rattle.rules.specs.declared.Part.TheVariants.{OfStore}
@@ -258,13 +256,13 @@ module _ (x : Shipment) (ok : (k : ℕ) → k < count_in x → Facts x k) where
           information = (fields_of st.table.registry sent).information;
         }
 
-    abbrev effect_by : Line → Found → Place → Found → List ℕ → Effect
+    abbrev effect_by : Line → Option ℕ → Place → Option ℕ → List ℕ → Effect
     effect_by line place p free i = effect_of line st.table st.store (key_in x) f i place p free
 
     reads : ReadsBack st.table.registry sent (heading_in x k) x.origin x.destination (information_in x k)
     reads = (ok k l).reads st.table.registry r.kind
 
-    came-is : (place free : Found) (p : Place) (i : List ℕ) → place_of (key_in x) ps ≡ place → lowest_free ps ≡ free → place_at ps place ≡ p → information_in x k ≡ i → (line : Line)
+    came-is : (place free : Option ℕ) (p : Place) (i : List ℕ) → place_of (key_in x) ps ≡ place → lowest_free ps ≡ free → place_at ps place ≡ p → information_in x k ≡ i → (line : Line)
         → line_of (is_at place) p.remaining.0 p.octets (heading_in x k) (length i) ≡ line
         → (is_start line && not (is_at free)) ≡ false
         → came ≡ reception_of st.table report (effect_by line place p free i)
@@ -345,7 +343,7 @@ module _ (x : Shipment) (ok : (k : ℕ) → k < count_in x → Facts x k) where
 
       -- a later one
       module _ (p : Progress k st) (one : 1 ≤ k) where
-        there : place_of (key_in x) ps ≡ At p.place
+        there : place_of (key_in x) ps ≡ Some p.place
         there = first-at (holds (key_in x)) ps p.place p.kept.first
 
         inside : p.place < 16
@@ -379,9 +377,9 @@ module _ (x : Shipment) (ok : (k : ℕ) → k < count_in x → Facts x k) where
           new : Place
           new = longer p.held (key_in x) (heading_in x k) (length (part k))
 
-          went : came ≡ reception_of st.table report (effect_by Next (At p.place) p.held (lowest_free ps) (part k))
+          went : came ≡ reception_of st.table report (effect_by Next (Some p.place) p.held (lowest_free ps) (part k))
           went =
-              came-is (At p.place) (lowest_free ps) p.held (part k) there refl p.kept.there carries Next
+              came-is (Some p.place) (lowest_free ps) p.held (part k) there refl p.kept.there carries Next
               (line ∙ rw (ne_eqb (count_in x - 1 - k) 0 (omega arith))) refl
 
           keeps : Saves (step old call).answer
@@ -404,9 +402,9 @@ module _ (x : Shipment) (ok : (k : ℕ) → k < count_in x → Facts x k) where
               })
 
         module _ (last : suc k ≡ count_in x) where
-          ended : came ≡ reception_of st.table report (effect_by Final (At p.place) p.held (lowest_free ps) (part k))
+          ended : came ≡ reception_of st.table report (effect_by Final (Some p.place) p.held (lowest_free ps) (part k))
           ended =
-              came-is (At p.place) (lowest_free ps) p.held (part k) there refl p.kept.there carries Final
+              came-is (Some p.place) (lowest_free ps) p.held (part k) there refl p.kept.there carries Final
               (line ∙ rw (eq-eqb (count_in x - 1 - k) 0 (omega arith))) refl
 
           whole_is : up_to (suc k) ≡ x.whole
@@ -463,25 +461,25 @@ module _ (x : Shipment) (ok : (k : ℕ) → k < count_in x → Facts x k) where
     begun-progress m u kept =
         record { place = m; held = start; kept = kept; remaining = omega arith; segments = refl; octets = refl; instruction = refl }
 
-    record Begun (place : Found) : Type 0 where
+    record Begun (place : Option ℕ) : Type 0 where
       answer : BeginsAs (step old begins).answer place (is_at place)
       progress : Progress 1 (step old begins).state
 
-    restarted : (m : ℕ) → place_of (key_in x) places ≡ At m → IsFirst (holds (key_in x)) places (At m) → Begun (At m)
+    restarted : (m : ℕ) → place_of (key_in x) places ≡ Some m → IsFirst (holds (key_in x)) places (Some m) → Begun (Some m)
     unfolding effect_of start
     restarted m e h =
-        let went = came-is old r₀ at 0 some comes (At m) (lowest_free places) (get_or places m no_place) (part 0) e refl refl (carries old r₀ at 0 some comes several) Restart
+        let went = came-is old r₀ at 0 some comes (Some m) (lowest_free places) (get_or places m no_place) (part 0) e refl refl (carries old r₀ at 0 some comes several) Restart
         (begun-line true _ _) refl in
         record {
           answer = rw (both_is old r₀ at 0 some comes _ went refl) (record { accepted = refl; lost = refl; records = refl });
           progress = subst (λ (u : State). Progress 1 u) (sym (state-is old r₀ at 0 some comes _ went refl)) (begun-progress m _ (placed m h.0 h.2));
         }
 
-    started : (m : ℕ) → place_of (key_in x) places ≡ Nothing → lowest_free places ≡ At m → IsFirst (holds (key_in x)) places Nothing → IsFirst is_free places (At m)
-        → Begun Nothing
+    started : (m : ℕ) → place_of (key_in x) places ≡ None → lowest_free places ≡ Some m → IsFirst (holds (key_in x)) places None → IsFirst is_free places (Some m)
+        → Begun None
     unfolding effect_of start
     started m e e' h g =
-        let went = came-is old r₀ at 0 some comes Nothing (At m) free_place (part 0) e e' refl (carries old r₀ at 0 some comes several) Start (begun-line false _ _) refl in
+        let went = came-is old r₀ at 0 some comes None (Some m) free_place (part 0) e e' refl (carries old r₀ at 0 some comes several) Start (begun-line false _ _) refl in
         record {
           answer = keeps-by old r₀ at 0 some comes _ went refl refl refl;
           progress = subst (λ (u : State). Progress 1 u) (sym (state-is old r₀ at 0 some comes _ went refl))
@@ -491,11 +489,11 @@ module _ (x : Shipment) (ok : (k : ℕ) → k < count_in x → Facts x k) where
     begun_first : CanTake x old at → Begun (place_of (key_in x) places)
     begun_first = go (place_of (key_in x) places) refl (place_is (key_in x) places) (lowest_free places) refl (free-is places)
       where
-        go : (place : Found) → place_of (key_in x) places ≡ place → IsFirst (holds (key_in x)) places place → (free : Found) → lowest_free places ≡ free
+        go : (place : Option ℕ) → place_of (key_in x) places ≡ place → IsFirst (holds (key_in x)) places place → (free : Option ℕ) → lowest_free places ≡ free
             → IsFirst is_free places free → (is_at place || is_at free) ≡ true → Begun place
-        go (At m) e h free e' g some = restarted m e h
-        go Nothing e h (At m) e' g some = started m e e' h g
-        go Nothing e h Nothing e' g some = absurd (clash some refl)
+        go (Some m) e h free e' g some = restarted m e h
+        go None e h (Some m) e' g some = started m e e' h g
+        go None e h None e' g some = absurd (clash some refl)
 
   -- between the segments
   ahead : {st st' : State} {i j : ℕ} → Meanwhile ours x st i st' j → i ≤ j

@@ -1,5 +1,5 @@
 -- A summary whose rows are the associations in their order, each with the numbers that the log gives; and how it grows.
-use Rattle.std.specs.Prelude.{if◌then◌else◌}
+use Rattle.std.specs.Prelude.{if◌then◌else◌, Option, Some, None}
 use Prim.Native.Nat.{ℕ, zero, suc, ◌+◌, ◌*◌, ◌≤◌, ◌<◌}
 use mathlib.Core.Path.{◌≡◌, refl, sym, ap, ◌∙◌}
 use mathlib.Core.Bool.{Bool, true, false, ◌||◌, and-eq-true_iff, true≢false}
@@ -11,8 +11,6 @@ use lib.ListN.{length, get_or, set, length-append, length-set, get_or-append}
 use lib.Seq.{get_or-append_seam, get_or-set_same, get_or-set_other, set-get_or}
 use Rattle.rules.specs.Records.{delivered, lost}
 use Rattle.rules.specs.Summary.{row_count, number_at, is_used, is_unused, is_for, row_of, unused_row, row_for, or_else, tally, seat}
-use Rattle.rules.specs.declared.Found.{Found}
-use Rattle.rules.specs.declared.Found.TheVariants.{At, Nothing}
 use Rattle.rules.proofs.Below.{first_passes, first-none, first-before}
 use Rattle.rules.proofs.Rows.{row_count_lem, row-of-within, unused-within}
 use Rattle.rules.proofs.Fitting.{length-tally, tally-first, tally-second, tally-other, length-seat, seat-other}
@@ -134,11 +132,11 @@ module _ (m l : List ℕ) (taken : List Taken) (covered : List Cover) (r : Rowed
   is_row : (a i : ℕ) → Seat a l i → is_for m a i ≡ true
   is_row a i s = rw (r.used 0 i (omega arith) s.inside, r.used 1 i (omega arith) s.inside, s.own) (eq-eqb a a refl)
 
-  pub row-found : (a i : ℕ) → row_of m a ≡ At i → Seat a l i
+  pub row-found : (a i : ℕ) → row_of m a ≡ Some i → Seat a l i
   row-found a i e = row_is a i (row-of-within m a i e) (first_passes (is_for m a) row_count i e).1
 
   -- an association that has one
-  pub row-there : (a : ℕ) → is_among a l ≡ true → row_of m a ≡ Nothing → ⊥
+  pub row-there : (a : ℕ) → is_among a l ≡ true → row_of m a ≡ None → ⊥
   row-there a q e =
       among-is ⊥ a l q
       (λ i s.
@@ -147,7 +145,7 @@ module _ (m l : List ℕ) (taken : List Taken) (covered : List Cover) (r : Rowed
       true≢false (sym (is_row a i s) ∙ first-none (is_for m a) row_count i e (omega (arith, row_count_lem))))
 
   -- the lowest unused row is the next
-  unused-next : (i : ℕ) → unused_row m ≡ At i → i ≡ length l
+  unused-next : (i : ℕ) → unused_row m ≡ Some i → i ≡ length l
   unused-next i e = go (ltb i (length l)) refl (ltb (length l) i) refl
     where
       within : i < 64
@@ -165,7 +163,7 @@ module _ (m l : List ℕ) (taken : List Taken) (covered : List Cover) (r : Rowed
 
   -- A SEAT is the association's own row, and nothing changes; or the next row
   module _ (a row : ℕ) where
-    own-seat : row_of m a ≡ At row → seat m row a ≡ m
+    own-seat : row_of m a ≡ Some row → seat m row a ≡ m
     own-seat e =
         let s = row-found a row e in
         let mark : 1 ≡ get_or m (64 * 0 + row) 0 = sym (r.used 0 row (omega arith) s.inside) in
@@ -199,14 +197,14 @@ module _ (m l : List ℕ) (taken : List Taken) (covered : List Cover) (r : Rowed
       pub rows : Rowed (seat m row a) (with_one l a) taken covered
       pub place : Seat a (with_one l a) row
 
-    pub seat-rowed : row_for m a ≡ At row → Seated
+    pub seat-rowed : row_for m a ≡ Some row → Seated
     seat-rowed e = go (is_among a l) refl (row_of m a) refl e
       where
-        go : (b : Bool) → is_among a l ≡ b → (f : Found) → row_of m a ≡ f → or_else f (unused_row m) ≡ At row → Seated
-        go true q (At i) f g = record { rows = rw (q, own-seat (f ∙ g)) r; place = rw q (row-found a row (f ∙ g)) }
-        go true q Nothing f g = absurd (row-there a q f)
-        go false q (At i) f g = let s = row-found a i f in absurd (among-not a l q i s.inside s.own)
-        go false q Nothing f g =
+        go : (b : Bool) → is_among a l ≡ b → (f : Option ℕ) → row_of m a ≡ f → or_else f (unused_row m) ≡ Some row → Seated
+        go true q (Some i) f g = record { rows = rw (q, own-seat (f ∙ g)) r; place = rw q (row-found a row (f ∙ g)) }
+        go true q None f g = absurd (row-there a q f)
+        go false q (Some i) f g = let s = row-found a i f in absurd (among-not a l q i s.inside s.own)
+        go false q None f g =
             let last = unused-next row g in
             record {
               rows = rw q (new-seat (among-not a l q) last (unused-within m row g));

@@ -1,5 +1,5 @@
 -- An accepted segment, line by line: its record is fair to what it covers, and what no record covers is held.
-use Rattle.std.specs.Prelude.{if◌then◌else◌}
+use Rattle.std.specs.Prelude.{if◌then◌else◌, Option, Some, None}
 use Prim.Native.Nat.{ℕ, ◌+◌, ◌≤◌, ◌<◌, ◌^◌}
 use mathlib.Core.Path.{◌≡◌, refl, sym, ap, ◌∙◌}
 use mathlib.Core.Bool.{Bool, true, false, not, ◌&&◌}
@@ -22,8 +22,6 @@ use Rattle.rules.specs.declared.Key.{Key}
 use Rattle.rules.specs.declared.Place.{Place}
 use Rattle.rules.specs.declared.Table.{Table}
 use Rattle.rules.specs.declared.Fields.{Fields}
-use Rattle.rules.specs.declared.Found.{Found}
-use Rattle.rules.specs.declared.Found.TheVariants.{At, Nothing}
 use Rattle.rules.specs.declared.Line.{Line}
 use Rattle.rules.specs.declared.Line.TheVariants.{Unsegmented, Broken, Restart, Start, Final, Next}
 use Rattle.rules.specs.declared.Part.TheVariants.{OfParameter, OfStore}
@@ -122,7 +120,7 @@ module _ (t : Table) (store s : List ℕ) (f : Fields) (k : Key) (u : Key → Li
     stays : (k' : Key) → held_from store k' 0 t.places ≡ owing (filed u k [] k')
     stays k' = exact k' ∙ ap owing (sym (filed-none u k none k'))
 
-    alone-done : (place vacant : Found) (p : Place) → Done Unsegmented (effect_of Unsegmented t store k f octets place p vacant)
+    alone-done : (place vacant : Option ℕ) (p : Place) → Done Unsegmented (effect_of Unsegmented t store k f octets place p vacant)
     unfolding effect_of delivery
     alone-done place vacant p =
         ended_by_lem Unsegmented refl (Delivered (OfParameter f.information (length octets))) delivered 0 f.heading.instruction 1 (length octets) t.places store
@@ -131,10 +129,10 @@ module _ (t : Table) (store s : List ℕ) (f : Fields) (k : Key) (u : Key → Li
         (part-tail s f.information ∙ rw none (simp append-nil))
         stays
 
-    lone-done : (cause : ℕ) (vacant : Found) → Done (Broken cause) (effect_of (Broken cause) t store k f octets Nothing free_place vacant)
+    lone-done : (cause : ℕ) (vacant : Option ℕ) → Done (Broken cause) (effect_of (Broken cause) t store k f octets None free_place vacant)
     unfolding effect_of delivery
     lone-done cause vacant =
-        ended_by_lem (Broken cause) refl (Lost cause Nothing) lost cause f.heading.instruction (0 + 1) (0 + length octets) t.places store (omega (arith, small)) refl
+        ended_by_lem (Broken cause) refl (Lost cause None) lost cause f.heading.instruction (0 + 1) (0 + length octets) t.places store (omega (arith, small)) refl
         (counted-one x (u k) (covering lost cause f.heading.instruction (0 + 1) (0 + length octets)) none (omega arith) (omega arith) refl) refl stays
 
   -- a place's stretch is in the store
@@ -165,14 +163,14 @@ module _ (t : Table) (store s : List ℕ) (f : Fields) (k : Key) (u : Key → Li
     size : p.octets + length octets < 2 ^ 16
     size = let o = octets-short t good i inside in let b = small in omega arith
 
-    broken-done : (cause : ℕ) (vacant : Found) → Done (Broken cause) (effect_of (Broken cause) t store k f octets (At i) p vacant)
+    broken-done : (cause : ℕ) (vacant : Option ℕ) → Done (Broken cause) (effect_of (Broken cause) t store k f octets (Some i) p vacant)
     unfolding effect_of delivery
     broken-done cause vacant =
-        ended_by_lem (Broken cause) refl (Lost cause (At i)) lost cause p.instruction (p.segments + 1) (p.octets + length octets) (set t.places i free_place) store size refl
+        ended_by_lem (Broken cause) refl (Lost cause (Some i)) lost cause p.instruction (p.segments + 1) (p.octets + length octets) (set t.places i free_place) store size refl
         (counted-more (view_of store i p) x (u k) (covering lost cause p.instruction (p.segments + 1) (p.octets + length octets)) owed-here refl refl refl) refl
         (freed store store t.places u exact i free_place inside (λ j l e. refl) k op refl)
 
-    restart-done : (vacant : Found) → Done Restart (effect_of Restart t store k f octets (At i) p vacant)
+    restart-done : (vacant : Option ℕ) → Done Restart (effect_of Restart t store k f octets (Some i) p vacant)
     unfolding effect_of delivery
     restart-done vacant =
         record {
@@ -187,7 +185,7 @@ module _ (t : Table) (store s : List ℕ) (f : Fields) (k : Key) (u : Key → Li
               ∙ ap (λ (l : List Segment). owing (filed (filed u k []) k (l ++ (x ∷ [])) k')) (sym (filed-same u k []));
         }
 
-    module _ (vacant : Found) (fits : p.octets + length octets ≤ 2048) where
+    module _ (vacant : Option ℕ) (fits : p.octets + length octets ≤ 2048) where
       abbrev store' : List ℕ
       store' = save_at store i p.octets octets
 
@@ -200,7 +198,7 @@ module _ (t : Table) (store s : List ℕ) (f : Fields) (k : Key) (u : Key → Li
           let l = splice-length store (place_start i + p.octets) octets in
           simp (lt-ltb i place_count (omega arith), le-leb (p.octets + length octets) stretch_length fits, le-leb (place_start i + (p.octets + length octets)) (length store') (omega arith))
 
-      final-done : Done Final (effect_of Final t store k f octets (At i) p vacant)
+      final-done : Done Final (effect_of Final t store k f octets (Some i) p vacant)
       unfolding effect_of delivery
       final-done =
           ended_by_lem Final refl (Delivered (OfStore i (p.octets + length octets))) delivered 0 p.instruction (p.segments + 1) (p.octets + length octets)
@@ -209,7 +207,7 @@ module _ (t : Table) (store s : List ℕ) (f : Fields) (k : Key) (u : Key → Li
           (part ∙ read ∙ sym (joined-owed (view_of store i p) x (u k) owed-here) ∙ sym (append-nil (joined (u k ++ (x ∷ [])))))
           (freed store store' t.places u exact i free_place inside (apart-save t good store i p.octets octets fits) k op refl)
 
-      next-done : Done Next (effect_of Next t store k f octets (At i) p vacant)
+      next-done : Done Next (effect_of Next t store k f octets (Some i) p vacant)
       unfolding effect_of
       next-done =
           saved-by Next refl refl i (set t.places i (longer p k f.heading (length octets))) store'
@@ -218,8 +216,8 @@ module _ (t : Table) (store s : List ℕ) (f : Fields) (k : Key) (u : Key → Li
           (ap (λ (b : List ℕ). viewed f.heading.remaining.0 (p.segments + 1) (p.octets + length octets) p.instruction p.start b ∷ []) read
           ∙ owing-more (view_of store i p) x (u k) owed-here))
 
-  start-done : (i : ℕ) (place : Found) (q : Place) → i < length t.places → is_open (get_or t.places i no_place) ≡ false → u k ≡ []
-      → Done Start (effect_of Start t store k f octets place q (At i))
+  start-done : (i : ℕ) (place : Option ℕ) (q : Place) → i < length t.places → is_open (get_or t.places i no_place) ≡ false → u k ≡ []
+      → Done Start (effect_of Start t store k f octets place q (Some i))
   unfolding effect_of
   start-done i place q inside shut none =
       saved-by Start refl refl i (set t.places i (begun t.clock k f.heading (length octets))) (save_at store i 0 octets)
@@ -230,11 +228,11 @@ module _ (t : Table) (store s : List ℕ) (f : Fields) (k : Key) (u : Key → Li
   never : {A : Type 0} → true ≡ false → A
   never e = absurd (let z : ◌≡◌ {A = ℕ} 0 1 = cc in omega arith)
 
-  starts : (vacant : Found) → IsFirst is_free t.places vacant → not (is_at vacant) ≡ false → u k ≡ [] → Done Start (effect_of Start t store k f octets Nothing free_place vacant)
-  starts (At i) h e none =
+  starts : (vacant : Option ℕ) → IsFirst is_free t.places vacant → not (is_at vacant) ≡ false → u k ≡ [] → Done Start (effect_of Start t store k f octets None free_place vacant)
+  starts (Some i) h e none =
       let m = eqb-true (get_or t.places i no_place).mark 0 h.1 in
-      start-done i Nothing free_place h.0 (ne_eqb (get_or t.places i no_place).mark 1 (omega arith)) none
-  starts Nothing h e none = never e
+      start-done i None free_place h.0 (ne_eqb (get_or t.places i no_place).mark 1 (omega arith)) none
+  starts None h e none = never e
 
   -- the line by what no record covers
   abbrev told : List Segment → Line
@@ -244,17 +242,17 @@ module _ (t : Table) (store s : List ℕ) (f : Fields) (k : Key) (u : Key → Li
   told-open [] i q e = absurd (let z : ◌≡◌ {A = ℕ} 0 1 = cc in omega arith)
   told-open (y ∷ l) i q e = let w = tells (view_of store i q) y l e in rw (w.remaining, w.octets)
 
-  none-there : IsFirst (holds k) t.places Nothing → u k ≡ []
+  none-there : IsFirst (holds k) t.places None → u k ≡ []
   none-there h = owing-none (u k) (sym (exact k) ∙ none-held store k 0 t.places h)
 
   -- is the table's
   pub line-told : line_at t k f.heading (length octets) ≡ told (u k)
   line-told = go (place_of k t.places) (place_is k t.places)
     where
-      go : (place : Found) → IsFirst (holds k) t.places place
+      go : (place : Option ℕ) → IsFirst (holds k) t.places place
           → line_of (is_at place) (place_at t.places place).remaining.0 (place_at t.places place).octets f.heading (length octets) ≡ told (u k)
-      go (At i) h = told-open (u k) i (get_or t.places i no_place) (owed-here i h.0 h.1)
-      go Nothing h = rw (none-there h)
+      go (Some i) h = told-open (u k) i (get_or t.places i no_place) (owed-here i h.0 h.1)
+      go None h = rw (none-there h)
 
   -- every line
   pub segment-done : (is_unsegmented f.heading.new f.heading.remaining.0 ≡ true → u k ≡ [])
@@ -263,27 +261,27 @@ module _ (t : Table) (store s : List ℕ) (f : Fields) (k : Key) (u : Key → Li
       (effect_of (line_at t k f.heading (length octets)) t store k f octets (place_of k t.places) (place_at t.places (place_of k t.places)) (lowest_free t.places))
   segment-done alone = go (place_of k t.places) (place_is k t.places)
     where
-      go : (place : Found) → IsFirst (holds k) t.places place
+      go : (place : Option ℕ) → IsFirst (holds k) t.places place
           → (is_start (line_of (is_at place) (place_at t.places place).remaining.0 (place_at t.places place).octets f.heading (length octets))
           && not (is_at (lowest_free t.places))) ≡ false
           → Done (line_of (is_at place) (place_at t.places place).remaining.0 (place_at t.places place).octets f.heading (length octets))
           (effect_of (line_of (is_at place) (place_at t.places place).remaining.0 (place_at t.places place).octets f.heading (length octets)) t store k f octets place
           (place_at t.places place) (lowest_free t.places))
-      go (At i) h =
+      go (Some i) h =
           let q : Place = get_or t.places i no_place in
-          line-cases (λ (line : Line). (is_start line && not (is_at (lowest_free t.places))) ≡ false → Done line (effect_of line t store k f octets (At i) q (lowest_free t.places)))
+          line-cases (λ (line : Line). (is_start line && not (is_at (lowest_free t.places))) ≡ false → Done line (effect_of line t store k f octets (Some i) q (lowest_free t.places)))
           true q.remaining.0 q.octets f.heading (length octets)
-          (λ a e. alone-done (alone a) (At i) (lowest_free t.places) q)
+          (λ a e. alone-done (alone a) (Some i) (lowest_free t.places) q)
           (λ cause l b e. broken-done i h.0 h.1 cause (lowest_free t.places))
           (λ b o e. restart-done i h.0 h.1 (lowest_free t.places))
           (λ b o e. never o)
           (λ b o l e. final-done i h.0 h.1 (lowest_free t.places) l)
           (λ b o l e. next-done i h.0 h.1 (lowest_free t.places) l)
-      go Nothing h =
+      go None h =
           let none : u k ≡ [] = none-there h in
-          line-cases (λ (line : Line). (is_start line && not (is_at (lowest_free t.places))) ≡ false → Done line (effect_of line t store k f octets Nothing free_place (lowest_free t.places)))
+          line-cases (λ (line : Line). (is_start line && not (is_at (lowest_free t.places))) ≡ false → Done line (effect_of line t store k f octets None free_place (lowest_free t.places)))
           false 0 0 f.heading (length octets)
-          (λ a e. alone-done none Nothing (lowest_free t.places) free_place)
+          (λ a e. alone-done none None (lowest_free t.places) free_place)
           (λ cause l b e. lone-done none cause (lowest_free t.places))
           (λ b o e. never (sym o))
           (λ b o e. starts (lowest_free t.places) (free-is t.places) e none)

@@ -1,4 +1,5 @@
 -- Opening gives a sound table and every call keeps it sound.
+use Rattle.std.specs.Prelude.{Option, Some, None}
 use Prim.Native.Nat.{ℕ, ◌+◌, ◌-◌, ◌≤◌, ◌<◌}
 use mathlib.Core.Path.{◌≡◌, refl, sym, ◌∙◌}
 use mathlib.Core.Bool.{Bool, true, false, not, ◌&&◌, ◌||◌, and-eq-true_iff, true≢false}
@@ -26,8 +27,6 @@ use Rattle.rules.specs.declared.Key.{Key}
 use Rattle.rules.specs.declared.Place.{Place}
 use Rattle.rules.specs.declared.Table.{Table}
 use Rattle.rules.specs.declared.Fields.{Fields}
-use Rattle.rules.specs.declared.Found.{Found}
-use Rattle.rules.specs.declared.Found.TheVariants.{At, Nothing}
 use Rattle.rules.specs.declared.Line.{Line}
 use Rattle.rules.specs.declared.Opened.{Opened}
 use Rattle.rules.proofs.Refusals.{Least, first-each, accepted-first}
@@ -66,30 +65,30 @@ module _ (t : Table) (ok : SoundTable t) where
   same_good = (ok.places, ok.apart)
 
   -- a place may be put where it is apart from the others
-  put-good : (i : ℕ) (x : Place) → SoundIn t x → ((j : ℕ) → j < length ps → (j ≡ i → ⊥) → places_apart x (get_or ps j no_place) ≡ true) → Good t (put_place ps (At i) x)
+  put-good : (i : ℕ) (x : Place) → SoundIn t x → ((j : ℕ) → j < length ps → (j ≡ i → ⊥) → places_apart x (get_or ps j no_place) ≡ true) → Good t (put_place ps (Some i) x)
   put-good i x s h = (every_set _ ps i x s ok.places, two-set ps i x ok.apart h)
 
-  free-good : (f : Found) → Good t (put_place ps f free_place)
-  free-good (At i) = put-good i free_place (free-sound t.registry t.timer t.clock) (λ j b d. apart-free (get_or ps j no_place))
-  free-good Nothing = same_good
+  free-good : (f : Option ℕ) → Good t (put_place ps f free_place)
+  free-good (Some i) = put-good i free_place (free-sound t.registry t.timer t.clock) (λ j b d. apart-free (get_or ps j no_place))
+  free-good None = same_good
 
   module _ (k : Key) where
-    own-good : (f : Found) → IsFirst (holds k) ps f → (x : Place) → x.key ≡ k → SoundIn t x → Good t (put_place ps f x)
-    own-good (At i) h x e s =
+    own-good : (f : Option ℕ) → IsFirst (holds k) ps f → (x : Place) → x.key ≡ k → SoundIn t x → Good t (put_place ps f x)
+    own-good (Some i) h x e s =
         put-good i x s (λ j b d. apart-own k x (get_or ps i no_place) (get_or ps j no_place) e h.1 (two_at ps i j ok.apart h.0 b (λ z. d (sym z))))
-    own-good Nothing h x e s = same_good
+    own-good None h x e s = same_good
 
-    new-good : (f : Found) → IsFirst (holds k) ps f → is_at f ≡ false → (vacant : Found) (x : Place) → x.key ≡ k → SoundIn t x → Good t (put_place ps vacant x)
-    new-good f h n Nothing x e s = same_good
-    new-good (At j) h n (At i) x e s = let z : ◌≡◌ {A = ℕ} 0 1 = cc in let y : ⊥ = omega arith in absurd y
-    new-good Nothing h n (At i) x e s = put-good i x s (λ j b d. apart-new k x (get_or ps j no_place) e (h j b))
+    new-good : (f : Option ℕ) → IsFirst (holds k) ps f → is_at f ≡ false → (vacant : Option ℕ) (x : Place) → x.key ≡ k → SoundIn t x → Good t (put_place ps vacant x)
+    new-good f h n None x e s = same_good
+    new-good (Some j) h n (Some i) x e s = let z : ◌≡◌ {A = ℕ} 0 1 = cc in let y : ⊥ = omega arith in absurd y
+    new-good None h n (Some i) x e s = put-good i x s (λ j b d. apart-new k x (get_or ps j no_place) e (h j b))
 
-    own_open : (f : Found) → IsFirst (holds k) ps f → is_at f ≡ true → OpenPlace t.registry t.timer t.clock (place_at ps f)
-    own_open (At i) h a =
+    own_open : (f : Option ℕ) → IsFirst (holds k) ps f → is_at f ≡ true → OpenPlace t.registry t.timer t.clock (place_at ps f)
+    own_open (Some i) h a =
         let p : Place = get_or ps i no_place in
         let s = every-at (place_sound t.registry t.timer t.clock) ps no_place i ok.places h.0 in
         open-parts t.registry t.timer t.clock p (open_is t.registry t.timer t.clock p s ((and-eq-true_iff _ _).0 h.1).0)
-    own_open Nothing h a = let z : ◌≡◌ {A = ℕ} 0 1 = cc in let y : ⊥ = omega arith in absurd y
+    own_open None h a = let z : ◌≡◌ {A = ℕ} 0 1 = cc in let y : ⊥ = omega arith in absurd y
 
 not-alone : (new : Bool) (r : ℕ) → 1 ≤ r → is_unsegmented new r ≡ false
 not-alone true r h = ne_eqb r 0 (λ e. omega arith)
@@ -168,7 +167,7 @@ module _ (t : Table) (ok : SoundTable t) (association : ℕ) (s : List ℕ) (rea
       open-sound t association s reading _ _ _ _ some nine (instruction t association s reading) (omega arith) (omega arith)
       (omega (arith, information t association s reading)) (omega (arith, elapsed-none t.clock))
 
-  segment-good : (store : List ℕ) (place : Found) → IsFirst (holds k) t.places place → (vacant : Found)
+  segment-good : (store : List ℕ) (place : Option ℕ) → IsFirst (holds k) t.places place → (vacant : Option ℕ)
       → let p : Place = place_at t.places place in
       Good t (effect_of (line_of (is_at place) p.remaining.0 p.octets g.heading (length octets)) t store k g octets place p vacant).places
   unfolding effect_of

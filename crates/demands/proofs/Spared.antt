@@ -1,5 +1,5 @@
 -- A call that spares a key leaves the key's place, and what was saved there.
-use Rattle.std.specs.Prelude.{if◌then◌else◌}
+use Rattle.std.specs.Prelude.{if◌then◌else◌, Option, Some, None}
 use Prim.Native.Nat.{ℕ, zero, suc, ◌+◌, ◌≤◌, ◌<◌}
 use mathlib.Core.Path.{◌≡◌, refl, sym, ap, ◌∙◌, subst}
 use mathlib.Core.Bool.{Bool, true, false, not, ◌&&◌, and-eq-true_iff}
@@ -23,8 +23,6 @@ use Rattle.rules.specs.declared.Place.{Place}
 use Rattle.rules.specs.declared.Table.{Table}
 use Rattle.rules.specs.declared.Heading.{Heading}
 use Rattle.rules.specs.declared.Fields.{Fields}
-use Rattle.rules.specs.declared.Found.{Found}
-use Rattle.rules.specs.declared.Found.TheVariants.{At, Nothing}
 use Rattle.rules.specs.declared.Line.{Line}
 use Rattle.rules.specs.declared.Line.TheVariants.{Unsegmented, Broken, Restart, Start, Final, Next}
 use Rattle.rules.specs.declared.Record.{Record}
@@ -37,7 +35,7 @@ use Rattle.rules.proofs.Reading.{parameter-short}
 
 -- a key's place, with a place there and octets at the front of its stretch of the store
 pub record Kept (k : Key) (i : ℕ) (p : Place) (saved : List ℕ) (ps : List Place) (store : List ℕ) : Type 0 where
-  pub first : IsFirst (holds k) ps (At i)
+  pub first : IsFirst (holds k) ps (Some i)
   pub there : get_or ps i no_place ≡ p
   pub stretch : take (length saved) (drop (place_start i) store) ≡ saved
 
@@ -48,21 +46,21 @@ clash e f =
     omega arith
 
 -- only one place is the first
-pub first-at : (test : Place → Bool) (ps : List Place) (i : ℕ) → IsFirst test ps (At i) → first_from test ps 0 ≡ At i
+pub first-at : (test : Place → Bool) (ps : List Place) (i : ℕ) → IsFirst test ps (Some i) → first_from test ps 0 ≡ Some i
 first-at test ps i h = go (first_from test ps 0) (first-is test ps)
   where
-    go : (f : Found) → IsFirst test ps f → f ≡ At i
-    go (At m) g = by (ltb m i) refl (ltb i m) refl
+    go : (f : Option ℕ) → IsFirst test ps f → f ≡ Some i
+    go (Some m) g = by (ltb m i) refl (ltb i m) refl
       where
-        by : (a : Bool) → ltb m i ≡ a → (b : Bool) → ltb i m ≡ b → At m ≡ At i
+        by : (a : Bool) → ltb m i ≡ a → (b : Bool) → ltb i m ≡ b → Some m ≡ Some i
         by true e b f = absurd (clash g.1 (h.2 m (ltb-true m i e)))
         by false e true f = absurd (clash h.1 (g.2 i (ltb-true i m f)))
         by false e false f =
             let x = ltb-false m i e in
             let y = ltb-false i m f in
             let z : m ≡ i = omega arith in
-            ap At z
-    go Nothing g = absurd (clash h.1 (g i h.0))
+            ap Some z
+    go None g = absurd (clash h.1 (g i h.0))
 
 -- a place that holds a key has it, and one of another key does not hold it
 pub held-key : (k : Key) (q : Place) → holds k q ≡ true → q.key ≡ k
@@ -75,14 +73,14 @@ not-held k q ne = go (holds k q) refl
     go true e = absurd (ne (held-key k q e))
     go false e = refl
 
-put-there : (ps : List Place) (i : ℕ) (f : Found) (q : Place) → (number_of f ≡ i → ⊥) → get_or (put_place ps f q) i no_place ≡ get_or ps i no_place
-put-there ps i (At m) q apart = get_or-set_other ps m i q no_place (λ e. apart (sym e))
-put-there ps i Nothing q apart = refl
+put-there : (ps : List Place) (i : ℕ) (f : Option ℕ) (q : Place) → (number_of f ≡ i → ⊥) → get_or (put_place ps f q) i no_place ≡ get_or ps i no_place
+put-there ps i (Some m) q apart = get_or-set_other ps m i q no_place (λ e. apart (sym e))
+put-there ps i None q apart = refl
 
-put_first : (k : Key) (ps : List Place) (i : ℕ) (f : Found) (q : Place) → (number_of f ≡ i → ⊥) → holds k q ≡ false → IsFirst (holds k) ps (At i)
-    → IsFirst (holds k) (put_place ps f q) (At i)
-put_first k ps i (At m) q apart none h =
-    (simp length-set h.0, ap (holds k) (put-there ps i (At m) q apart) ∙ h.1, before)
+put_first : (k : Key) (ps : List Place) (i : ℕ) (f : Option ℕ) (q : Place) → (number_of f ≡ i → ⊥) → holds k q ≡ false → IsFirst (holds k) ps (Some i)
+    → IsFirst (holds k) (put_place ps f q) (Some i)
+put_first k ps i (Some m) q apart none h =
+    (simp length-set h.0, ap (holds k) (put-there ps i (Some m) q apart) ∙ h.1, before)
   where
     before : (j : ℕ) → j < i → holds k (get_or (set ps m q) j no_place) ≡ false
     before j l = go (eqb j m) refl
@@ -93,7 +91,7 @@ put_first k ps i (At m) q apart none h =
             let inside = h.0 in
             rw z (ap (holds k) (get_or-set_same ps m q no_place (omega arith)) ∙ none)
         go false e = ap (holds k) (get_or-set_other ps m j q no_place (eqb-false j m e)) ∙ h.2 j l
-put_first k ps i Nothing q apart none h = h
+put_first k ps i None q apart none h = h
 
 save-kept : (store : List ℕ) (i m at n : ℕ) (octets : List ℕ) → (m ≡ i → ⊥) → at + length octets ≤ 2048 → n ≤ 2048
     → take n (drop (place_start i) (save_at store m at octets)) ≡ take n (drop (place_start i) store)
@@ -134,7 +132,7 @@ line-fits is_open before saved g n =
     go false e false = ltb-false data_most (saved + n) e
 
 module _ (k : Key) (i : ℕ) (p : Place) (saved : List ℕ) (size : length saved ≤ 2048) where
-  put-kept : (ps : List Place) (store : List ℕ) (f : Found) (q : Place) → (number_of f ≡ i → ⊥) → holds k q ≡ false
+  put-kept : (ps : List Place) (store : List ℕ) (f : Option ℕ) (q : Place) → (number_of f ≡ i → ⊥) → holds k q ≡ false
       → Kept k i p saved ps store → Kept k i p saved (put_place ps f q) store
   put-kept ps store f q apart none kept =
       record { first = put_first k ps i f q apart none kept.first; there = put-there ps i f q apart ∙ kept.there; stretch = kept.stretch }
@@ -144,7 +142,7 @@ module _ (k : Key) (i : ℕ) (p : Place) (saved : List ℕ) (size : length saved
   stored-kept ps store m at octets apart fits kept =
       record { first = kept.first; there = kept.there; stretch = save-kept store i m at (length saved) octets apart fits size ∙ kept.stretch }
 
-  module _ (t : Table) (store : List ℕ) (key : Key) (f : Fields) (octets : List ℕ) (place : Found) (q : Place) (vacant : Found)
+  module _ (t : Table) (store : List ℕ) (key : Key) (f : Fields) (octets : List ℕ) (place : Option ℕ) (q : Place) (vacant : Option ℕ)
       (kept : Kept k i p saved t.places store) (other : key ≡ k → ⊥) (apart : number_of place ≡ i → ⊥) (away : number_of vacant ≡ i → ⊥)
       (short : length octets ≤ 2048) where
     effect-kept : (l : Line) → Fitting l (q.octets + length octets)
@@ -164,7 +162,7 @@ module _ (k : Key) (i : ℕ) (p : Place) (saved : List ℕ) (size : length saved
         let new : Place = longer q key f.heading (length octets) in
         stored-kept _ store (number_of place) q.octets octets apart fits (put-kept t.places store place new apart (not-held k new other) kept)
 
-effect-length : (t : Table) (store : List ℕ) (key : Key) (f : Fields) (octets : List ℕ) (place : Found) (q : Place) (vacant : Found) (l : Line)
+effect-length : (t : Table) (store : List ℕ) (key : Key) (f : Fields) (octets : List ℕ) (place : Option ℕ) (q : Place) (vacant : Option ℕ) (l : Line)
     → length (effect_of l t store key f octets place q vacant).store ≡ length store
 unfolding effect_of
 effect-length t store key f octets place q vacant Unsegmented = refl
@@ -204,22 +202,22 @@ module _ (t : Table) (m store report : List ℕ) (association : ℕ) (s : List �
     apart : number_of (place_of key t.places) ≡ i → ⊥
     apart = go (place_of key t.places) (place_is key t.places)
       where
-        go : (m : Found) → IsFirst (holds key) t.places m → number_of m ≡ i → ⊥
-        go (At m) h e =
+        go : (m : Option ℕ) → IsFirst (holds key) t.places m → number_of m ≡ i → ⊥
+        go (Some m) h e =
             let same = ap (λ (n : ℕ). (get_or t.places n no_place).key) e in
             other (sym (held-key key (get_or t.places m no_place) h.1) ∙ same ∙ held-key k (get_or t.places i no_place) kept.first.1)
-        go Nothing h e = let l = inside in omega arith
+        go None h e = let l = inside in omega arith
 
     away : number_of (lowest_free t.places) ≡ i → ⊥
     away = go (lowest_free t.places) (free-is t.places)
       where
-        go : (m : Found) → IsFirst is_free t.places m → number_of m ≡ i → ⊥
-        go (At m) h e =
+        go : (m : Option ℕ) → IsFirst is_free t.places m → number_of m ≡ i → ⊥
+        go (Some m) h e =
             let free = eqb-true (get_or t.places m no_place).mark 0 h.1 in
             let same = ap (λ (n : ℕ). (get_or t.places n no_place).mark) e in
             let taken = eqb-true (get_or t.places i no_place).mark 1 ((and-eq-true_iff (is_open (get_or t.places i no_place)) _).0 kept.first.1).0 in
             omega arith
-        go Nothing h e = let l = inside in omega arith
+        go None h e = let l = inside in omega arith
 
     short : length (information_of s f) ≤ 2048
     short =
@@ -228,7 +226,7 @@ module _ (t : Table) (m store report : List ℕ) (association : ℕ) (s : List �
 
     pub segment-kept : Kept k i p saved (segment_with t m store report association s).call.answer.table.places (segment_with t m store report association s).call.store
     segment-kept =
-        let place : Found = place_of key t.places in
+        let place : Option ℕ = place_of key t.places in
         let q : Place = place_at t.places place in
         subst (λ (o : Reception). Kept k i p saved o.answer.table.places o.store) (sym (segment-is ok))
         (effect-kept k i p saved size t store key f (information_of s f) place q (lowest_free t.places) kept other apart away short _

@@ -1,5 +1,5 @@
 -- TOTALS of the machine that the rules are: every call leaves the numbers that the log gives.
-use Rattle.std.specs.Prelude.{if◌then◌else◌}
+use Rattle.std.specs.Prelude.{if◌then◌else◌, Option, Some, None}
 use Prim.Native.Nat.{ℕ, suc, ◌+◌, ◌*◌, ◌<◌}
 use mathlib.Core.Path.{◌≡◌, refl, sym, ap, ◌∙◌}
 use mathlib.Core.Bool.{Bool, true, false, not, ◌&&◌, ◌||◌, and-eq-true_iff, true≢false}
@@ -18,8 +18,6 @@ use Rattle.rules.specs.Calls.{State, Call, Opens, Opening, step}
 use Rattle.rules.specs.declared.Key.{Key}
 use Rattle.rules.specs.declared.Place.{Place}
 use Rattle.rules.specs.declared.Record.{Record}
-use Rattle.rules.specs.declared.Found.{Found}
-use Rattle.rules.specs.declared.Found.TheVariants.{At, Nothing}
 use Rattle.rules.specs.declared.Line.{Line}
 use Rattle.rules.specs.declared.Line.TheVariants.{Unsegmented, Broken, Restart, Start, Final, Next}
 use Rattle.rules.proofs.Fitting.{column-within}
@@ -103,14 +101,14 @@ module _ (m l : List ℕ) (taken : List Taken) (covered : List Cover) (r : Rowed
   pub took-rowed : is_at (row_for m a) ≡ true → Rowed (took m a (length x.segment.octets)) (with_one l a) (taken ++ (x ∷ [])) covered × (is_among a (with_one l a) ≡ true)
   took-rowed row = go (row_for m a) refl row
     where
-      go : (f : Found) → row_for m a ≡ f → is_at f ≡ true
+      go : (f : Option ℕ) → row_for m a ≡ f → is_at f ≡ true
           → Rowed (took_at m f a (length x.segment.octets)) (with_one l a) (taken ++ (x ∷ [])) covered × (is_among a (with_one l a) ≡ true)
-      go (At i) e t =
+      go (Some i) e t =
           let s = seat-rowed m l taken covered r a i e in (
             tally-rowed _ (with_one l a) taken covered s.rows 2 a i 1 (length x.segment.octets) (omega arith) (omega arith) s.place (taken ++ (x ∷ [])) covered (taken-adds taken covered x),
             seat-among a (with_one l a) i s.place,
           )
-      go Nothing e t = absurd (true≢false (sym t))
+      go None e t = absurd (true≢false (sym t))
 
 -- records that are billed
 abbrev pub Billable : List ℕ → Record → Type 0
@@ -127,13 +125,13 @@ module _ (l : List ℕ) (taken : List Taken) where
       n : (k.made.segments ≡ length k.segments) × (k.made.octets ≡ length (joined k.segments))
       n = counts_of k k.segments f
 
-      go : (f : Found) → row_of m k.made.key.association ≡ f → Rowed (bill_at m f k.made) l taken (covered ++ (k ∷ []))
-      go (At i) e =
+      go : (f : Option ℕ) → row_of m k.made.key.association ≡ f → Rowed (bill_at m f k.made) l taken (covered ++ (k ∷ []))
+      go (Some i) e =
           let c = column-within k.made.kind in
           tally-rowed m l taken covered r (column_of k.made.kind) k.made.key.association i k.made.segments k.made.octets c.0 c.1
           (row-found m l taken covered r k.made.key.association i e) taken (covered ++ (k ∷ []))
           (λ c j h. rw (n.0, n.1) (covered-adds taken covered k j (eqb k.made.kind delivered) b.0 c h))
-      go Nothing e = absurd (row-there m l taken covered r k.made.key.association b.1 e)
+      go None e = absurd (row-there m l taken covered r k.made.key.association b.1 e)
 
   pub billed-rowed : (m : List ℕ) (covered : List Cover) (u : Key → List Segment) (rs : List Record) → Rowed m l taken covered → All Fair (covers_of u rs) → All (Billable l) rs
       → Rowed (billed m rs) l taken (covered ++ covers_of u rs)
@@ -199,9 +197,9 @@ module _ (m : List ℕ) (h : Told) (r : Counts m h) where
       both : (is_seated m p ≡ true) × (every (is_seated m) ps ≡ true)
       both = (and-eq-true_iff (is_seated m p) (every (is_seated m) ps)).0 e
 
-      among : (f : Found) → row_of m p.key.association ≡ f → (not true || is_at f) ≡ true → is_among p.key.association (associations_from [] h.taken) ≡ true
-      among (At i) q s = seat-among _ _ i (row-found m _ h.taken h.covered r p.key.association i q)
-      among Nothing q s = absurd (true≢false (sym s))
+      among : (f : Option ℕ) → row_of m p.key.association ≡ f → (not true || is_at f) ≡ true → is_among p.key.association (associations_from [] h.taken) ≡ true
+      among (Some i) q s = seat-among _ _ i (row-found m _ h.taken h.covered r p.key.association i q)
+      among None q s = absurd (true≢false (sym s))
 
       go : (b : Bool) → test p ≡ b → All (Billable (associations_from [] h.taken)) (losses_by test cause ps)
           → All (Billable (associations_from [] h.taken)) (map (loss_of cause) (if b then p ∷ those test ps else those test ps))

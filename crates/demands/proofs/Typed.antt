@@ -1,5 +1,5 @@
 -- The table after any call has what the types of its fields say.
-use Rattle.std.specs.Prelude.{if◌then◌else◌}
+use Rattle.std.specs.Prelude.{if◌then◌else◌, Option, Some, None}
 use Prim.Native.Nat.{ℕ, zero, suc, ◌≤◌, ◌<◌, ◌^◌}
 use mathlib.Core.Path.{◌≡◌, refl, ◌∙◌}
 use mathlib.Core.Bool.{Bool, true, false}
@@ -19,8 +19,6 @@ use Rattle.rules.specs.declared.Key.{Key}
 use Rattle.rules.specs.declared.Place.{Place}
 use Rattle.rules.specs.declared.Table.{Table}
 use Rattle.rules.specs.declared.Fields.{Fields}
-use Rattle.rules.specs.declared.Found.{Found}
-use Rattle.rules.specs.declared.Found.TheVariants.{At, Nothing}
 use Rattle.rules.specs.declared.Line.{Line}
 use Rattle.rules.specs.declared.Line.TheVariants.{Unsegmented, Broken, Restart, Start, Final, Next}
 use Rattle.rules.specs.declared.Opened.{Opened}
@@ -43,9 +41,9 @@ all_set [] i p h all = tt
 all_set (q ∷ ps) zero p h all = (h, all.1)
 all_set (q ∷ ps) (suc i) p h all = (all.0, all_set ps i p h all.1)
 
-put_typed : (ps : List Place) (f : Found) (p : Place) → TypedPlace p → TypedPlaces ps → TypedPlaces (put_place ps f p)
-put_typed ps (At i) p h all = (length-set ps i p ∙ all.0, all_set ps i p h all.1)
-put_typed ps Nothing p h all = all
+put_typed : (ps : List Place) (f : Option ℕ) (p : Place) → TypedPlace p → TypedPlaces ps → TypedPlaces (put_place ps f p)
+put_typed ps (Some i) p h all = (length-set ps i p ∙ all.0, all_set ps i p h all.1)
+put_typed ps None p h all = all
 
 pub all-free : (n : ℕ) → All TypedPlace (replicate n free_place)
 all-free zero = tt
@@ -62,7 +60,7 @@ key-typed association s f a o d p e =
       association = rw e a;
     }
 
-effect-typed : (line : Line) (t : Table) (store : List ℕ) (key : Key) (f : Fields) (octets : List ℕ) (place : Found) (p : Place) (vacant : Found)
+effect-typed : (line : Line) (t : Table) (store : List ℕ) (key : Key) (f : Fields) (octets : List ℕ) (place : Option ℕ) (p : Place) (vacant : Option ℕ)
     → ((q : Place) → q.key ≡ key → TypedPlace q) → TypedPlaces t.places → TypedPlaces (effect_of line t store key f octets place p vacant).places
 unfolding effect_of
 effect-typed Unsegmented t store key f octets place p vacant new h = h

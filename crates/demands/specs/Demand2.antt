@@ -1,6 +1,6 @@
 -- DEMAND 2, the round trip. Data that we cut comes back unchanged when its segments arrive in order at a table with the same kind for the context, each at a time that is accepted, a
 -- place is free for the first, the summary can count each (neither 21 nor 22 applies), and nothing else touches that sequence meanwhile: a timeout in a segment's own arrival does.
-use Rattle.std.specs.Prelude.{if◌then◌else◌, ℕ, suc, ◌+◌, ◌*◌, ◌≤◌, ◌<◌, ◌^◌, ◌≡◌, Bool, true, false, ◌||◌, List, [], length, take, drop}
+use Rattle.std.specs.Prelude.{if◌then◌else◌, ℕ, suc, ◌+◌, ◌*◌, ◌≤◌, ◌<◌, ◌^◌, ◌≡◌, Bool, true, false, ◌||◌, List, [], length, take, drop, Option}
 use Rattle.octets.specs.Splice.{splice}
 use Rattle.rules.specs.Numbers.{store_least}
 use Rattle.rules.specs.Refusals.{nowhere, accepted}
@@ -16,7 +16,6 @@ use Rattle.rules.specs.Calls.{State, Arrival, Call, Opens, Arrives, Ticks, Relea
 use Rattle.rules.specs.declared.Key.{Key}
 use Rattle.rules.specs.declared.Record.{Record}
 use Rattle.rules.specs.declared.Request.{Request}
-use Rattle.rules.specs.declared.Found.{Found}
 use Rattle.rules.specs.declared.Decision.{Decision}
 use Rattle.rules.specs.declared.Decision.TheVariants.{Refused, Saved, Delivered, Lost}
 use Rattle.demands.specs.Machine.{Machine, checks_of, clock_of, clocked_by, whole_of, CanCount, All, InRange, Typed, SoundSummary}
@@ -148,13 +147,13 @@ pub record Saves (a : Answer) : Type 0 where
   pub saved : is_saved a.decided ≡ true
   pub records : a.records ≡ a.timeouts
 
-pub record Restarts (a : Answer) (place : Found) : Type 0 where
+pub record Restarts (a : Answer) (place : Option ℕ) : Type 0 where
   pub accepted : a.refusal ≡ 0
   pub lost : a.decided ≡ As (Lost 3 place)
   pub records : a.records ≡ a.timeouts + 1
 
 -- how the first of several is answered, by the place of its key
-abbrev pub BeginsAs : Answer → Found → Bool → Type 0
+abbrev pub BeginsAs : Answer → Option ℕ → Bool → Type 0
 BeginsAs a place true = Restarts a place
 BeginsAs a place false = Saves a
 
@@ -174,7 +173,7 @@ pub record Ready (x : Shipment) (st : State) : Type 0 where
   pub carrier : x.association < 2 ^ 16
 
 -- the place of its key after an arrival's clock work
-abbrev pub place_after : Shipment → State → Slot → Found
+abbrev pub place_after : Shipment → State → Slot → Option ℕ
 place_after x st at = place_of (key_in x) (clocked_by st (arrival_in x 0 at)).table.places
 
 -- the first of several can be taken: after its clock work its key is open, or a place is free

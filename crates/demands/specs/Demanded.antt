@@ -1,6 +1,6 @@
 -- WHAT IS DEMANDED OF ONE CALL, of what is seen of it: at every state; along every history that matches the state; and of the data that is under way. What it leaves matches again, so
 -- that these compose over any calls, whoever makes them.
-use Rattle.std.specs.Prelude.{ℕ, zero, suc, ◌+◌, ◌-◌, ◌*◌, ◌≤◌, ◌<◌, ◌^◌, ◌≡◌, true, false, List, [], ◌∷◌, length, take, drop, get_or}
+use Rattle.std.specs.Prelude.{ℕ, zero, suc, ◌+◌, ◌-◌, ◌*◌, ◌≤◌, ◌<◌, ◌^◌, ◌≡◌, true, false, List, [], ◌∷◌, length, take, drop, get_or, Some}
 use Rattle.rules.specs.Numbers.{place_start, elapsed}
 use Rattle.rules.specs.Places.{no_place, place_of, is_at}
 use Rattle.rules.specs.Soundness.{sound}
@@ -8,7 +8,6 @@ use Rattle.rules.specs.Sending.{first_carries, later_carries}
 use Rattle.rules.specs.Calls.{State}
 use Rattle.rules.specs.declared.Key.{Key}
 use Rattle.rules.specs.declared.Place.{Place}
-use Rattle.rules.specs.declared.Found.TheVariants.{At}
 use Rattle.demands.specs.Machine.{Typed, SoundSummary}
 use Rattle.demands.specs.Seen.{Seen}
 use Rattle.demands.specs.History.{Segment, Told, EachIn, after}
@@ -53,7 +52,7 @@ place_in x st i = get_or st.table.places i no_place
 pub record Underway (x : Shipment) (j : ℕ) (st : State) : Type 0 where
   pub ready : Ready x st
   pub place : ℕ
-  pub there : place_of (key_in x) st.table.places ≡ At place
+  pub there : place_of (key_in x) st.table.places ≡ Some place
   pub remaining : (place_in x st place).remaining.0 ≡ count_in x - j
   pub segments : (place_in x st place).segments ≡ j
   pub octets : (place_in x st place).octets ≡ length (so_far x j)

@@ -5,7 +5,7 @@ ghost use Rattle.std.specs.Prelude.{◌≡◌};
 ghost use Rattle.rules.specs.Places.{number_of, found_at};
 ghost use Rattle.host_numbers.specs.Crossing.{c_decision_of, decision_of, located, Within};
 
-use rules::{Decision, Found, Part};
+use rules::{Decision, Part};
 
 // A decision as numbers. kind: 0 refused, 1 saved, 2 delivered of the parameter, 3 delivered of the store, 4 lost. A place of 16 is none.
 #[repr(C)]
@@ -27,22 +27,22 @@ pub struct CPart {
     pub source: u8,
 }
 
-fn place_number(place: Found) -> usize
+fn place_number(place: Option<usize>) -> usize
     ensures { result ≡ number_of place }
 {
     match place {
-        Found::At(p) => p,
-        Found::Nothing => rules::PLACES,
+        Some(p) => p,
+        None => rules::PLACES,
     }
 }
 
-fn found_of(place: usize) -> Found
+fn found_of(place: usize) -> Option<usize>
     ensures { result ≡ found_at place }
 {
     if place == rules::PLACES {
-        return Found::Nothing;
+        return None;
     }
-    Found::At(place)
+    Some(place)
 }
 
 pub fn c_decision_of(decision: Decision) -> CDecision

@@ -1,4 +1,5 @@
 -- A segment adds little to any total, so that the summary can count each of a loopback's.
+use Rattle.std.specs.Prelude.{Option, Some, None}
 use Prim.Native.Nat.{ℕ, zero, suc, ◌+◌, ◌*◌, ◌-◌, ◌≤◌, ◌<◌, ◌^◌}
 use mathlib.Core.Path.{◌≡◌, refl, sym, ap, subst, ◌∙◌}
 use mathlib.Core.Bool.{Bool, true, false, or-true, and-eq-true_iff, true≢false}
@@ -25,8 +26,6 @@ use Rattle.rules.specs.declared.Place.{Place}
 use Rattle.rules.specs.declared.Table.{Table}
 use Rattle.rules.specs.declared.Fields.{Fields}
 use Rattle.rules.specs.declared.Record.{Record}
-use Rattle.rules.specs.declared.Found.{Found}
-use Rattle.rules.specs.declared.Found.TheVariants.{At, Nothing}
 use Rattle.rules.specs.declared.Line.{Line}
 use Rattle.rules.specs.declared.Line.TheVariants.{Unsegmented, Broken, Restart, Start, Final, Next}
 use Rattle.rules.proofs.Below.{below_at, below-from, below_fails}
@@ -56,19 +55,19 @@ tally-most m column row s o long hc hr k = go (eqb k (64 * column + row)) refl (
 took-most : (m : List ℕ) (a n : ℕ) → length m ≡ 512 → (k : ℕ) → get_or (took m a n) (128 + k) 0 ≤ get_or m (128 + k) 0 + 1 + n
 took-most m a n long k = go (row_for m a) refl
   where
-    go : (r : Found) → row_for m a ≡ r → get_or (took_at m r a n) (128 + k) 0 ≤ get_or m (128 + k) 0 + 1 + n
-    go (At row) e =
+    go : (r : Option ℕ) → row_for m a ≡ r → get_or (took_at m r a n) (128 + k) 0 ≤ get_or m (128 + k) 0 + 1 + n
+    go (Some row) e =
         let hr = row-for-within m a row e in
         omega (arith, seat-totals m row a hr k, tally-most (seat m row a) 2 row 1 n (length-seat m row a ∙ long) (omega arith) hr (128 + k))
-    go Nothing e = omega arith
+    go None e = omega arith
 
 bill-most : (m : List ℕ) (r : Record) → length m ≡ 512 → (k : ℕ) → get_or (bill m r) k 0 ≤ get_or m k 0 + r.segments + r.octets
 bill-most m r long k = go (row_of m r.key.association) refl
   where
-    go : (f : Found) → row_of m r.key.association ≡ f → get_or (bill_at m f r) k 0 ≤ get_or m k 0 + r.segments + r.octets
-    go (At row) e =
+    go : (f : Option ℕ) → row_of m r.key.association ≡ f → get_or (bill_at m f r) k 0 ≤ get_or m k 0 + r.segments + r.octets
+    go (Some row) e =
         tally-most m (column_of r.kind) row r.segments r.octets long (column-within r.kind).1 (row-of-within m r.key.association row e) k
-    go Nothing e = omega arith
+    go None e = omega arith
 
 -- WHAT A SEGMENT BILLS: no record, or one that counts little
 
@@ -107,11 +106,11 @@ module _ (registry : List Entry) (timer clock : ℕ) where
   places-small (p ∷ ps) e zero = place-small p ((and-eq-true_iff (place_sound registry timer clock p) (every (place_sound registry timer clock) ps)).0 e).0
   places-small (p ∷ ps) e (suc i) = places-small ps ((and-eq-true_iff (place_sound registry timer clock p) (every (place_sound registry timer clock) ps)).0 e).1 i
 
-found-small : (t : Table) → sound t ≡ true → (f : Found) → Small (place_at t.places f)
-found-small t s (At i) = places-small t.registry t.timer t.clock t.places (places-sound t s) i
-found-small t s Nothing = record { segments = omega arith; octets = omega arith }
+found-small : (t : Table) → sound t ≡ true → (f : Option ℕ) → Small (place_at t.places f)
+found-small t s (Some i) = places-small t.registry t.timer t.clock t.places (places-sound t s) i
+found-small t s None = record { segments = omega arith; octets = omega arith }
 
-effect-slight : (line : Line) (t : Table) (store : List ℕ) (key : Key) (f : Fields) (octets : List ℕ) (place : Found) (p : Place) (vacant : Found)
+effect-slight : (line : Line) (t : Table) (store : List ℕ) (key : Key) (f : Fields) (octets : List ℕ) (place : Option ℕ) (p : Place) (vacant : Option ℕ)
     → Small p → length octets ≤ 255 → Slight (effect_of line t store key f octets place p vacant).records
 unfolding effect_of
 effect-slight Unsegmented t store key f octets place p vacant h n = (omega arith, omega arith)
@@ -129,7 +128,7 @@ unfolding segment_sums
 sums-most t m store report association s good long short k =
     let f : Fields = fields_of t.registry s in
     let key : Key = key_of association s f in
-    let place : Found = place_of key t.places in
+    let place : Option ℕ = place_of key t.places in
     let n : ℕ = length (information_of s f) in
     let within : n ≤ 255 = omega (arith, length-drop f.information s) in
     let made : List Record = (received_at t store report association s).made in
@@ -166,9 +165,9 @@ module _ (st : State) (report : List ℕ) (long : arrival_least ≤ length repor
   own_row : (m : List ℕ) → is_at (row_of m association) ≡ true → is_at (row_for m association) ≡ true
   own_row m e = go (row_of m association) e
     where
-      go : (f : Found) → is_at f ≡ true → is_at (or_else f (unused_row m)) ≡ true
-      go (At i) h = refl
-      go Nothing h = absurd (true≢false (sym h))
+      go : (f : Option ℕ) → is_at f ≡ true → is_at (or_else f (unused_row m)) ≡ true
+      go (Some i) h = refl
+      go None h = absurd (true≢false (sym h))
 
   after-row : association < 2 ^ 16 → SoundSummary st → is_at (row_for st.summary association) ≡ true
       → is_at (row_for (step st (Arrives (own_arrival st report association s))).state.summary association) ≡ true

@@ -10,7 +10,7 @@ ghost use Rattle.loop_laps.specs.Laps.{asked};
 ghost use Rattle.loopback.specs.Loopback.{is_roomy, count_checks, fit_checks, OfLoopback};
 
 use loop_laps::{Course, Looped};
-use rules::{Decision, Found, Request, Table};
+use rules::{Decision, Request, Table};
 
 // Nothing is done, and why.
 fn refused(t: Table, number: u8) -> Looped
@@ -30,8 +30,8 @@ fn has_vacant(t: Table) -> bool
 {
     let places = t.places;
     match table::lowest_free(places) {
-        Found::At(_) => true,
-        Found::Nothing => false,
+        Some(_) => true,
+        None => false,
     }
 }
 
@@ -40,8 +40,8 @@ fn has_row(m: &[u64; rules::SUMMARY], association: u16) -> bool
     ensures { result ≡ is_at (row_for m.now association) }
 {
     match summary::row_for(m, association) {
-        Found::At(_) => true,
-        Found::Nothing => false,
+        Some(_) => true,
+        None => false,
     }
 }
 

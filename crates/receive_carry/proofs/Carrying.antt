@@ -1,5 +1,5 @@
 -- Each line's verdict, performed, leaves what the rule says of that line.
-use Rattle.std.specs.Prelude.{if◌then◌else◌}
+use Rattle.std.specs.Prelude.{if◌then◌else◌, Some}
 use Prim.Native.Nat.{ℕ, ◌+◌}
 use mathlib.Core.Path.{◌≡◌, refl}
 use mathlib.Core.Bool.{true}
@@ -9,7 +9,6 @@ use Rattle.rules.specs.Records.{delivered, lost}
 use Rattle.rules.specs.Places.{free_place}
 use Rattle.rules.specs.Receiving.{longer, effect_of}
 use Rattle.rules.specs.declared.Table.{Table}
-use Rattle.rules.specs.declared.Found.TheVariants.{At}
 use Rattle.rules.specs.declared.Part.TheVariants.{OfParameter, OfStore}
 use Rattle.rules.specs.declared.Line.{Line}
 use Rattle.rules.specs.declared.Line.TheVariants.{Unsegmented, Broken, Restart, Start, Final, Next}
@@ -42,7 +41,7 @@ module _ (t : Table) (j : Judged) (holds : Holds t j) (store report octets : Lis
       }
 
   pub as-restart : j.found ≡ true
-      → Leading Restart (telling_of lost 3 j.held.instruction j.held.segments j.held.octets (saving_from 0 (taken_to j.fields.information (begun_by j (length octets)) (Lost 3 (At j.at)))))
+      → Leading Restart (telling_of lost 3 j.held.instruction j.held.segments j.held.octets (saving_from 0 (taken_to j.fields.information (begun_by j (length octets)) (Lost 3 (Some j.at)))))
   unfolding carried_at effect_of
   as-restart o = rw o (record { answered = places-answer t _ _ (rw holds.0); stored = refl; reported = refl; made = refl })
 

@@ -11,7 +11,7 @@ ghost use Rattle.receive_perform.specs.Performing.{Fits, Leads};
 ghost use Rattle.receive_carry.specs.Carried.{found_if, held_if, taken_to, saving_from, telling_of, begun_by, Holds, Fit, carried_at};
 
 use receive_perform::Verdict;
-use rules::{Decision, Fault, Fields, Found, Key, Line, Part, Place, Table};
+use rules::{Decision, Fault, Fields, Key, Line, Part, Place, Table};
 
 // A segment as it is judged: its sequence's key, its fields, the place that it is about and what that holds, whether the key is open there, and the time.
 #[derive(Clone, Copy)]
@@ -42,13 +42,13 @@ fn open_place(j: Judged, instruction: u8, segments: u8, octets: u16, start: u32)
 }
 
 // The place as a decision names it; none where the sequence is not open.
-fn found_if(is_open: bool, at: usize) -> Found
+fn found_if(is_open: bool, at: usize) -> Option<usize>
     ensures { result ≡ found_if is_open at }
 {
     if is_open {
-        return Found::At(at);
+        return Some(at);
     }
-    Found::Nothing
+    None
 }
 
 // What was saved: nothing where the sequence is not open.
@@ -161,10 +161,10 @@ fn broken(cause: u8, j: Judged, n: usize) -> Verdict
 // Line 2: what was saved is lost, and this segment starts the sequence in the same place.
 fn restart(j: Judged, n: usize) -> Verdict
     requires { n ≤ parameter_most }
-    ensures { result ≡ telling_of lost 3 j.held.instruction j.held.segments j.held.octets (saving_from 0 (taken_to j.fields.information (begun_by j n) (Decision.Lost 3 (Found.At j.at)))) }
+    ensures { result ≡ telling_of lost 3 j.held.instruction j.held.segments j.held.octets (saving_from 0 (taken_to j.fields.information (begun_by j n) (Decision.Lost 3 (Some j.at)))) }
 {
     let next = begun_place(j, n);
-    let v = saving(taken(j, next, Decision::Lost(3, Found::At(j.at))), 0);
+    let v = saving(taken(j, next, Decision::Lost(3, Some(j.at))), 0);
     telling(
         v,
         rules::LOST,

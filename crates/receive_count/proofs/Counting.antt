@@ -1,5 +1,5 @@
 -- What is counted in a row has room exactly where the summary after it fits.
-use Rattle.std.specs.Prelude.{if◌then◌else◌}
+use Rattle.std.specs.Prelude.{if◌then◌else◌, Option, Some, None}
 use Prim.Native.Nat.{ℕ, ◌+◌, ◌*◌, ◌≤◌, ◌<◌}
 use mathlib.Core.Path.{◌≡◌, sym, ap, ◌∙◌}
 use mathlib.Core.Bool.{Bool, true, false, ◌&&◌, and-eq-true_iff}
@@ -14,8 +14,6 @@ use Rattle.rules.specs.Receiving.{record_with}
 use Rattle.rules.specs.Summary.{number_at, row_of, row_for, tally, seat, took, column_of, bill_at, bill, billed, room_in, fits, row_checks, total_checks}
 use Rattle.rules.specs.declared.Key.{Key}
 use Rattle.rules.specs.declared.Record.{Record}
-use Rattle.rules.specs.declared.Found.{Found}
-use Rattle.rules.specs.declared.Found.TheVariants.{At, Nothing}
 use Rattle.rules.proofs.Rows.{row-for-within}
 use Rattle.rules.proofs.Fitting.{fits-took, fits-took-billed, fits-tally, tally-other, seat-other, length-seat, length-tally, column-within}
 use Rattle.rules.proofs.Seats.{took-row-of}
@@ -62,12 +60,12 @@ room-then m row n records kind segments octets hr f e =
     ∙ ((and-eq-true_iff (room_in m 2 row 1 n) (room_in m (column_of kind) row segments octets)).0 (simp f at e)).1
 
 -- the number of the last checks, by the row and the room
-pub last-number : (m m' : List ℕ) (a : ℕ) (f : Found) (b : Bool) → row_for m a ≡ f → fits m m' ≡ b → first (row_checks m a ++ total_checks m m') ≡ (if is_at f then if b then 0 else 22 else 21)
-last-number m m' a (At row) true e g = rw (e, g)
-last-number m m' a (At row) false e g = rw (e, g)
-last-number m m' a Nothing b e g = rw e
+pub last-number : (m m' : List ℕ) (a : ℕ) (f : Option ℕ) (b : Bool) → row_for m a ≡ f → fits m m' ≡ b → first (row_checks m a ++ total_checks m m') ≡ (if is_at f then if b then 0 else 22 else 21)
+last-number m m' a (Some row) true e g = rw (e, g)
+last-number m m' a (Some row) false e g = rw (e, g)
+last-number m m' a None b e g = rw e
 
-module _ (m : List ℕ) (long : length m ≡ 512) (a n row : ℕ) (for : row_for m a ≡ At row) (v : Verdict) (key : Key) (own : key.association ≡ a) where
+module _ (m : List ℕ) (long : length m ≡ 512) (a n row : ℕ) (for : row_for m a ≡ Some row) (v : Verdict) (key : Key) (own : key.association ≡ a) where
   abbrev made : Record
   made = record_with v.kind v.cause key v.instruction v.segments v.octets
 
@@ -76,8 +74,8 @@ module _ (m : List ℕ) (long : length m ≡ 512) (a n row : ℕ) (for : row_for
 
   bill-is : bill (took m a n) made ≡ tally (tally (seat m row a) 2 row 1 n) (column_of v.kind) row v.segments v.octets
   bill-is =
-      let at : row_of (tally (seat m row a) 2 row 1 n) key.association ≡ At row = rw own (took-row-of m long a row n for) in
-      rw took-is (ap (λ (f : Found). bill_at (tally (seat m row a) 2 row 1 n) f made) at)
+      let at : row_of (tally (seat m row a) 2 row 1 n) key.association ≡ Some row = rw own (took-row-of m long a row n for) in
+      rw took-is (ap (λ (f : Option ℕ). bill_at (tally (seat m row a) 2 row 1 n) f made) at)
 
   pub sums-is : added_in (seat m row a) row n v.records v.kind v.segments v.octets ≡ sums_by m a n v key
   sums-is = go (eqb v.records 0)

@@ -1,9 +1,8 @@
 -- A verdict, counted in a summary.
-use Rattle.std.specs.Prelude.{if◌then◌else◌, ℕ, ◌≡◌, Bool, true, ◌&&◌, List, ◌++◌, eqb}
+use Rattle.std.specs.Prelude.{if◌then◌else◌, ℕ, ◌≡◌, Bool, true, ◌&&◌, List, ◌++◌, eqb, Some}
 use Rattle.rules.specs.Refusals.{first}
 use Rattle.rules.specs.Summary.{row_for, tally, took, billed, column_of, room_in, row_checks, total_checks}
 use Rattle.rules.specs.declared.Key.{Key}
-use Rattle.rules.specs.declared.Found.TheVariants.{At}
 use Rattle.receive_perform.specs.Performing.{records_in}
 use Rattle.receive_perform.specs.declared.Verdict.{Verdict}
 use Rattle.receive_count.specs.declared.Count.{Count}
@@ -25,5 +24,5 @@ added_in m row n records kind segments octets =
 -- the refusal is that of the summary's last checks, whatever else the key is; and the row
 pub record OfCount (m : List ℕ) (association n : ℕ) (v : Verdict) (c : Count) : Type 0 where
   pub number : (key : Key) → key.association ≡ association → c.refusal ≡ first (row_checks m association ++ total_checks m (sums_by m association n v key))
-  pub row : c.refusal ≡ 0 → row_for m association ≡ At c.row
+  pub row : c.refusal ≡ 0 → row_for m association ≡ Some c.row
   pub room : c.refusal ≡ 0 → room_for m c.row n v.records v.kind v.segments v.octets ≡ true

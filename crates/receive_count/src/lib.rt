@@ -73,11 +73,11 @@ pub fn judge(m: &[u64; rules::SUMMARY], association: u16, n: usize, v: Verdict) 
 {
     summary::numbers(m);
     match summary::row_for(m, association) {
-        Found::Nothing => Count {
+        None => Count {
             row: 0,
             refusal: 21,
         },
-        Found::At(row) => {
+        Some(row) => {
             if has_room(m, row, n, v.records, v.kind, v.segments, v.octets) {
                 return Count { row, refusal: 0 };
             }

@@ -1,4 +1,5 @@
 -- The steps of the segment call, one after the other, are its rule.
+use Rattle.std.specs.Prelude.{Option, Some}
 use Prim.Native.Nat.{ℕ, zero, suc}
 use mathlib.Core.Path.{◌≡◌, refl, sym, ap, ◌∙◌}
 use mathlib.Core.Bool.{Bool, true, false, not, ◌&&◌, and-eq-true_iff, true≢false}
@@ -24,8 +25,6 @@ use Rattle.rules.specs.declared.Table.{Table}
 use Rattle.rules.specs.declared.Heading.{Heading}
 use Rattle.rules.specs.declared.Fields.{Fields}
 use Rattle.rules.specs.declared.Fault.{Fault}
-use Rattle.rules.specs.declared.Found.{Found}
-use Rattle.rules.specs.declared.Found.TheVariants.{At}
 use Rattle.rules.specs.declared.Line.{Line}
 use Rattle.rules.specs.declared.Line.TheVariants.{Unsegmented, Broken, Restart, Start, Final, Next}
 use Rattle.receive_lines.specs.Telling.{Tells}
@@ -88,10 +87,10 @@ unfolding line_of
 line-alone is_open a x g n e = simp e
 
 -- a line that touches places does the same by the one place that a segment is about
-module _ (t : Table) (store : List ℕ) (key : Key) (f : Fields) (octets : List ℕ) (at : ℕ) (found : Bool) (held : Place) (place vacant : Found) (p : Place)
+module _ (t : Table) (store : List ℕ) (key : Key) (f : Fields) (octets : List ℕ) (at : ℕ) (found : Bool) (held : Place) (place vacant : Option ℕ) (p : Place)
     (ep : place ≡ found_if found at) (eh : p ≡ held_if found held) where
-  effect_is : (line : Line) → (is_start line ≡ true → vacant ≡ At at)
-      → effect_of line t store key f octets (found_if found at) (held_if found held) (At at) ≡ effect_of line t store key f octets place p vacant
+  effect_is : (line : Line) → (is_start line ≡ true → vacant ≡ Some at)
+      → effect_of line t store key f octets (found_if found at) (held_if found held) (Some at) ≡ effect_of line t store key f octets place p vacant
   unfolding effect_of
   effect_is Unsegmented free = refl
   effect_is (Broken cause) free = rw (ep, eh)
@@ -100,7 +99,7 @@ module _ (t : Table) (store : List ℕ) (key : Key) (f : Fields) (octets : List 
   effect_is Final free = rw (ep, eh)
   effect_is Next free = rw (ep, eh)
 
-saved-is : (ps : List Place) (at : ℕ) (found : Bool) (held : Place) (place : Found) → place ≡ found_if found at → held ≡ get_or ps at no_place → place_at ps place ≡ held_if found held
+saved-is : (ps : List Place) (at : ℕ) (found : Bool) (held : Place) (place : Option ℕ) → place ≡ found_if found at → held ≡ get_or ps at no_place → place_at ps place ≡ held_if found held
 saved-is ps at true held place e h = rw e (sym h)
 saved-is ps at false held place e h = rw e
 
@@ -142,7 +141,7 @@ module _ (t : Table) (store report : List ℕ) (f : Fields) (octets : List ℕ) 
       go true start = ap not ((seeks.points a).has-vacant (start-closed start))
       go false start = refl
 
-  free-at : is_unsegmented f.heading.new f.heading.remaining.0 ≡ false → (is_start line && not q.search.vacant) ≡ false → is_start line ≡ true → lowest_free t.places ≡ At q.search.at
+  free-at : is_unsegmented f.heading.new f.heading.remaining.0 ≡ false → (is_start line && not q.search.vacant) ≡ false → is_start line ≡ true → lowest_free t.places ≡ Some q.search.at
   free-at a e start = (seeks.points a).free-at (start-closed start) (roomy q.search.vacant (simp start at e))
     where
       roomy : (b : Bool) → not b ≡ false → b ≡ true
@@ -165,7 +164,7 @@ module _ (t : Table) (store report : List ℕ) (f : Fields) (octets : List ℕ) 
           → carried_at line t store report (judged_of t f q held) octets ≡ arrival t store report q.key f octets
       go true a = rw (alone-line a, line-alone (is_at (place_of q.key t.places)) (place_at t.places (place_of q.key t.places)).remaining.0 (place_at t.places (place_of q.key t.places)).octets f.heading (length octets) a)
       go false a =
-          let place : Found = place_of q.key t.places in
+          let place : Option ℕ = place_of q.key t.places in
           let same = effect_is t store q.key f octets q.search.at q.search.found held place (lowest_free t.places) (place_at t.places place)
           (seeks.points a).open_at (saved-is t.places q.search.at q.search.found held place (seeks.points a).open_at there) line (free-at a e) in
           ap (reception_of t report) same ∙ rw (← line-at a) (simp (sym (same-room a) ∙ e))

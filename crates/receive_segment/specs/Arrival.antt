@@ -1,5 +1,5 @@
 -- What becomes of a segment that has been read.
-use Rattle.std.specs.Prelude.{if◌then◌else◌, ℕ, ◌≡◌, Bool, true, false, List, length, drop}
+use Rattle.std.specs.Prelude.{if◌then◌else◌, ℕ, ◌≡◌, Bool, true, false, List, length, drop, Option}
 use Rattle.rules.specs.Refusals.{nowhere, judged_at}
 use Rattle.rules.specs.Layout.{fields_of}
 use Rattle.rules.specs.Places.{place_of, lowest_free, place_at}
@@ -12,15 +12,14 @@ use Rattle.receive_count.specs.declared.Count.{Count}
 use Rattle.rules.specs.declared.Key.{Key}
 use Rattle.rules.specs.declared.Table.{Table}
 use Rattle.rules.specs.declared.Fields.{Fields}
-use Rattle.rules.specs.declared.Found.{Found}
 use Rattle.rules.specs.declared.Line.{Line}
 use Rattle.rules.specs.declared.Received.{Received}
 
 -- what becomes of a segment of a key, with fields f and these octets: 10, or what its line does
 unfoldable pub arrival : Table → List ℕ → List ℕ → Key → Fields → List ℕ → Reception
 arrival t store report key f octets =
-    let place : Found = place_of key t.places in
-    let vacant : Found = lowest_free t.places in
+    let place : Option ℕ = place_of key t.places in
+    let vacant : Option ℕ = lowest_free t.places in
     let line : Line = line_at t key f.heading (length octets) in
     judged_at (taking_checks line t.places) (unreceived t store report)
     (reception_of t report (effect_of line t store key f octets place (place_at t.places place) vacant))

@@ -1,5 +1,5 @@
 -- Laws of a sweep: which places are done at turn i, and what those left still give.
-use Rattle.std.specs.Prelude.{if◌then◌else◌}
+use Rattle.std.specs.Prelude.{if◌then◌else◌, Some}
 use Prim.Native.Nat.{ℕ, zero, suc, ◌+◌, ◌*◌, ◌≤◌, ◌<◌}
 use mathlib.Core.Path.{◌≡◌, refl, sym, ap, ◌∙◌}
 use mathlib.Core.Bool.{Bool, true, false}
@@ -18,7 +18,6 @@ use Rattle.rules.specs.Records.{record_length, records_octets}
 use Rattle.rules.specs.Receiving.{with_places}
 use Rattle.rules.specs.Sweep.{loss_of, freed_by, sweep}
 use Rattle.rules.proofs.Lists.{left}
-use Rattle.rules.specs.declared.Found.TheVariants.{At}
 use Rattle.rules.specs.declared.Place.{Place}
 use Rattle.rules.specs.declared.Swept.{Swept}
 use Rattle.rules.specs.declared.Table.{Table}
@@ -30,7 +29,7 @@ pub none-those : (test : Place → Bool) (ps : List Place) (i : ℕ) → is_at (
 none-those test [] i e = (refl, refl)
 none-those test (p ∷ ps) i e = go (test p) refl e (none-those test ps (i + 1))
   where
-    go : (b : Bool) → test p ≡ b → is_at (if b then At i else first_from test ps (i + 1)) ≡ false
+    go : (b : Bool) → test p ≡ b → is_at (if b then Some i else first_from test ps (i + 1)) ≡ false
         → (is_at (first_from test ps (i + 1)) ≡ false → (those test ps ≡ []) × (map (freed_by test) ps ≡ ps))
         → (those test (p ∷ ps) ≡ []) × (map (freed_by test) (p ∷ ps) ≡ p ∷ ps)
     go true t f more = let z : ◌≡◌ {A = ℕ} 0 1 = cc in absurd (omega arith)

@@ -1,5 +1,5 @@
 -- WRONG MACHINES. Each is ours but for one error, and breaks a demand: proofs/Rejected.antt.
-use Rattle.std.specs.Prelude.{if◌then◌else◌, ℕ, ◌+◌, ◌-◌, ◌%◌, Bool, true, false, not, ◌&&◌, List, [], ◌∷◌, ◌++◌, map, eqb, leb, ltb, length, take, drop, get_or, set, replicate}
+use Rattle.std.specs.Prelude.{if◌then◌else◌, ℕ, ◌+◌, ◌-◌, ◌%◌, Bool, true, false, not, ◌&&◌, List, [], ◌∷◌, ◌++◌, map, eqb, leb, ltb, length, take, drop, get_or, set, replicate, Option, Some, None}
 use Rattle.octets.specs.Number.{number}
 use Rattle.octets.specs.Splice.{splice}
 use Rattle.rules.specs.General.{every, those}
@@ -24,10 +24,8 @@ use Rattle.rules.specs.declared.Fields.{Fields}
 use Rattle.rules.specs.declared.Heading.{Heading}
 use Rattle.rules.specs.declared.Place.{Place}
 use Rattle.rules.specs.declared.Table.{Table}
-use Rattle.rules.specs.declared.Found.{Found}
 use Rattle.rules.specs.declared.Record.{Record}
 use Rattle.rules.specs.declared.Request.{Request}
-use Rattle.rules.specs.declared.Found.TheVariants.{At, Nothing}
 use Rattle.rules.specs.declared.Line.{Line}
 use Rattle.rules.specs.declared.Line.TheVariants.{Unsegmented, Broken, Restart, Start, Final, Next}
 use Rattle.rules.specs.declared.Part.TheVariants.{OfParameter, OfStore}
@@ -86,7 +84,7 @@ abbrev pub loses_all : Machine
 loses_all = where_accepted (on_segment (λ st x.
     let f : Fields = fields_of st.table.registry x.parameter in
     let r : Record = record_with lost 1 (key_of x.association x.parameter f) f.heading.instruction 1 (length (information_of x.parameter f)) in
-    outcome (answering (unplaced 0) 1 0 (As (Lost 1 Nothing)) (lending (splice x.report 0 (record_octets r)) [])) st))
+    outcome (answering (unplaced 0) 1 0 (As (Lost 1 None)) (lending (splice x.report 0 (record_octets r)) [])) st))
 
 -- the right answers, and table and store stay as before the segment
 abbrev pub forgets : Machine
@@ -242,16 +240,16 @@ writes_nonsense = sending (λ t area kind q o d whole.
 -- THE SEGMENT OF AN ARRIVAL, as the rules have it but for four things: how the place of a key is found and one for a new sequence chosen, which line applies, and what is made of
 -- its effect
 abbrev Finding : Type 0
-Finding = Key → List Place → Found
+Finding = Key → List Place → Option ℕ
 
 abbrev Choosing : Type 0
-Choosing = List Place → Found
+Choosing = List Place → Option ℕ
 
 abbrev Deciding : Type 0
 Deciding = Bool → ℕ → ℕ → Heading → ℕ → Line
 
 abbrev Changing : Type 0
-Changing = Line → Table → Fields → Found → Place → Effect → Effect
+Changing = Line → Table → Fields → Option ℕ → Place → Effect → Effect
 
 -- what an accepted arrival comes to: its segment meets what its clock work leaves
 abbrev joined : Finding → Choosing → Deciding → Changing → State → Arrival → Outcome
@@ -261,7 +259,7 @@ joined find choose decide change st x =
     let f : Fields = fields_of t.registry x.parameter in
     let key : Key = key_of x.association x.parameter f in
     let octets : List ℕ = information_of x.parameter f in
-    let place : Found = find key t.places in
+    let place : Option ℕ = find key t.places in
     let p : Place = place_at t.places place in
     let line : Line = decide (is_at place) p.remaining.0 p.octets f.heading (length octets) in
     let e : Effect = effect_of line t st.store key f octets place p (choose t.places) in
@@ -323,12 +321,12 @@ abbrev pub records_origin_twice : Machine
 records_origin_twice = recording (λ r. record_with r.kind r.cause (returned r.key) r.instruction r.segments r.octets)
 
 -- a new sequence goes to the highest free place
-abbrev highest_from : List Place → ℕ → Found → Found
+abbrev highest_from : List Place → ℕ → Option ℕ → Option ℕ
 highest_from [] i best = best
-highest_from (p ∷ ps) i best = highest_from ps (i + 1) (if is_free p then At i else best)
+highest_from (p ∷ ps) i best = highest_from ps (i + 1) (if is_free p then Some i else best)
 
 abbrev pub takes_highest : Machine
-takes_highest = joining place_of (λ ps. highest_from ps 0 Nothing) line_of unchanged
+takes_highest = joining place_of (λ ps. highest_from ps 0 None) line_of unchanged
 
 -- an empty later segment is lost with cause 2
 abbrev empty_lost : ℕ → Line → Line

@@ -1,5 +1,5 @@
 -- Laws on tests over the numbers below a bound.
-use Rattle.std.specs.Prelude.{if◌then◌else◌}
+use Rattle.std.specs.Prelude.{if◌then◌else◌, Option, Some, None}
 use Prim.Native.Nat.{ℕ, zero, suc, ◌+◌, ◌<◌}
 use mathlib.Core.Path.{◌≡◌, refl, sym, ◌∙◌}
 use mathlib.Core.Bool.{Bool, true, false, ◌&&◌, and-false, and-eq-true_iff}
@@ -9,8 +9,6 @@ use borrow.Author.Tests.{eqb-true, eqb-false}
 use lib.Dec.{eqb}
 use Rattle.rules.specs.Places.{is_at}
 use Rattle.rules.specs.Summary.{every_below, first_below, or_else}
-use Rattle.rules.specs.declared.Found.{Found}
-use Rattle.rules.specs.declared.Found.TheVariants.{At, Nothing}
 
 crossed : (a b c d : Bool) → ((a && b) && (c && d)) ≡ ((a && c) && (b && d))
 crossed false b c d = refl
@@ -69,71 +67,71 @@ module _ (test : ℕ → Bool) where
       go false e y f = below_fails n i hi e
 
   -- the first that passes
-  pub first_more : (i : ℕ) → first_below i test ≡ Nothing → test i ≡ false → first_below (i + 1) test ≡ Nothing
+  pub first_more : (i : ℕ) → first_below i test ≡ None → test i ≡ false → first_below (i + 1) test ≡ None
   first_more i none e = rw (add-one i, none, e)
 
-  pub first-at : (n i : ℕ) → first_below i test ≡ Nothing → test i ≡ true → i < n → first_below n test ≡ At i
+  pub first-at : (n i : ℕ) → first_below i test ≡ None → test i ≡ true → i < n → first_below n test ≡ Some i
   first-at zero i none e h = absurd (omega arith)
   first-at (suc n) i none e h = go (eqb i n) refl (first-at n i none e)
     where
-      go : (b : Bool) → eqb i n ≡ b → (i < n → first_below n test ≡ At i) → first_below (suc n) test ≡ At i
+      go : (b : Bool) → eqb i n ≡ b → (i < n → first_below n test ≡ Some i) → first_below (suc n) test ≡ Some i
       go true s more = let same : n ≡ i = sym (eqb-true i n s) in rw (same, none, e)
       go false s more = rw (more (omega (arith, eqb-false i n s)))
 
   -- the one found passes
-  pub first_passes : (n i : ℕ) → first_below n test ≡ At i → (i < n) × (test i ≡ true)
+  pub first_passes : (n i : ℕ) → first_below n test ≡ Some i → (i < n) × (test i ≡ true)
   first_passes zero i e = let z : ◌≡◌ {A = ℕ} 0 1 = cc in absurd (omega arith)
   first_passes (suc n) i e = go (first_below n test) refl (test n) refl e (first_passes n i)
     where
-      go : (r : Found) → first_below n test ≡ r → (b : Bool) → test n ≡ b → or_else r (if b then At n else Nothing) ≡ At i
-          → (first_below n test ≡ At i → (i < n) × (test i ≡ true)) → (i < suc n) × (test i ≡ true)
-      go (At k) f b g h more =
+      go : (r : Option ℕ) → first_below n test ≡ r → (b : Bool) → test n ≡ b → or_else r (if b then Some n else None) ≡ Some i
+          → (first_below n test ≡ Some i → (i < n) × (test i ≡ true)) → (i < suc n) × (test i ≡ true)
+      go (Some k) f b g h more =
           let m = more (f ∙ h) in
           (omega (arith, m.0), m.1)
-      go Nothing f true g h more =
+      go None f true g h more =
           let same : n ≡ i = cc in
           (omega arith, rw same at g)
-      go Nothing f false g h more = let z : ◌≡◌ {A = ℕ} 0 1 = cc in absurd (omega arith)
+      go None f false g h more = let z : ◌≡◌ {A = ℕ} 0 1 = cc in absurd (omega arith)
 
   -- where none is found none passes
-  pub first-none : (n k : ℕ) → first_below n test ≡ Nothing → k < n → test k ≡ false
+  pub first-none : (n k : ℕ) → first_below n test ≡ None → k < n → test k ≡ false
   first-none zero k e h = absurd (omega arith)
   first-none (suc n) k e h = go (first_below n test) refl (test n) refl e (eqb k n) refl (first-none n k)
     where
-      go : (r : Found) → first_below n test ≡ r → (b : Bool) → test n ≡ b → or_else r (if b then At n else Nothing) ≡ Nothing
-          → (s : Bool) → eqb k n ≡ s → (first_below n test ≡ Nothing → k < n → test k ≡ false) → test k ≡ false
-      go (At j) f b g e s es more = let z : ◌≡◌ {A = ℕ} 0 1 = cc in absurd (omega arith)
-      go Nothing f true g e s es more = let z : ◌≡◌ {A = ℕ} 0 1 = cc in absurd (omega arith)
-      go Nothing f false g e true es more = rw (eqb-true k n es) g
-      go Nothing f false g e false es more = more f (omega (arith, eqb-false k n es))
+      go : (r : Option ℕ) → first_below n test ≡ r → (b : Bool) → test n ≡ b → or_else r (if b then Some n else None) ≡ None
+          → (s : Bool) → eqb k n ≡ s → (first_below n test ≡ None → k < n → test k ≡ false) → test k ≡ false
+      go (Some j) f b g e s es more = let z : ◌≡◌ {A = ℕ} 0 1 = cc in absurd (omega arith)
+      go None f true g e s es more = let z : ◌≡◌ {A = ℕ} 0 1 = cc in absurd (omega arith)
+      go None f false g e true es more = rw (eqb-true k n es) g
+      go None f false g e false es more = more f (omega (arith, eqb-false k n es))
 
-  pub none_first : (n : ℕ) → ((k : ℕ) → k < n → test k ≡ false) → first_below n test ≡ Nothing
+  pub none_first : (n : ℕ) → ((k : ℕ) → k < n → test k ≡ false) → first_below n test ≡ None
   none_first zero none = refl
   none_first (suc n) none = rw (none_first n (λ k h. none k (omega arith)), none n (omega arith))
 
   -- none passes before the one found
-  pub first-before : (n i : ℕ) → first_below n test ≡ At i → (k : ℕ) → k < i → test k ≡ false
+  pub first-before : (n i : ℕ) → first_below n test ≡ Some i → (k : ℕ) → k < i → test k ≡ false
   first-before zero i e k h = let z : ◌≡◌ {A = ℕ} 0 1 = cc in absurd (omega arith)
   first-before (suc n) i e k h = go (first_below n test) refl (test n) e (λ f. first-before n i f k h)
     where
-      go : (r : Found) → first_below n test ≡ r → (b : Bool) → or_else r (if b then At n else Nothing) ≡ At i
-          → (first_below n test ≡ At i → test k ≡ false) → test k ≡ false
-      go (At j) f b g more = more (f ∙ g)
-      go Nothing f true g more =
+      go : (r : Option ℕ) → first_below n test ≡ r → (b : Bool) → or_else r (if b then Some n else None) ≡ Some i
+          → (first_below n test ≡ Some i → test k ≡ false) → test k ≡ false
+      go (Some j) f b g more = more (f ∙ g)
+      go None f true g more =
           let same : n ≡ i = cc in
           first-none n k f (omega arith)
-      go Nothing f false g more = let z : ◌≡◌ {A = ℕ} 0 1 = cc in absurd (omega arith)
+      go None f false g more = let z : ◌≡◌ {A = ℕ} 0 1 = cc in absurd (omega arith)
 
   -- one that passes, and none before it
-  pub first-is : (n i : ℕ) → i < n → test i ≡ true → ((k : ℕ) → k < i → test k ≡ false) → first_below n test ≡ At i
+  pub first-is : (n i : ℕ) → i < n → test i ≡ true → ((k : ℕ) → k < i → test k ≡ false) → first_below n test ≡ Some i
   first-is n i h e none = first-at n i (none_first i none) e h
 
   pub is_found : (n i : ℕ) → i < n → test i ≡ true → is_at (first_below n test) ≡ true
   is_found n i h e = go (first_below n test) refl
     where
-      go : (r : Found) → first_below n test ≡ r → is_at r ≡ true
-      go (At j) f = refl
-      go Nothing f = sym (first-none n i f h) ∙ e
+      go : (r : Option ℕ) → first_below n test ≡ r → is_at r ≡ true
+      go (Some j) f = refl
+      go None f = sym (first-none n i f h) ∙ e
 
 -- two tests that agree find the same
 pub first-same : (f g : ℕ → Bool) (n : ℕ) → ((i : ℕ) → i < n → f i ≡ g i) → first_below n f ≡ first_below n g

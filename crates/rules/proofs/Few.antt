@@ -1,4 +1,5 @@
 -- How many records a call makes: a segment's rule one at most, an arrival one of every place and the segment's own; and the report area has room for them.
+use Rattle.std.specs.Prelude.{Option}
 use Prim.Native.Nat.{ℕ, ◌*◌, ◌≤◌}
 use mathlib.Core.Path.{◌≡◌, refl, sym, ap, ◌∙◌}
 use mathlib.Core.List.{List, ◌++◌}
@@ -16,13 +17,12 @@ use Rattle.rules.specs.declared.Key.{Key}
 use Rattle.rules.specs.declared.Place.{Place}
 use Rattle.rules.specs.declared.Table.{Table}
 use Rattle.rules.specs.declared.Fields.{Fields}
-use Rattle.rules.specs.declared.Found.{Found}
 use Rattle.rules.specs.declared.Line.{Line}
 use Rattle.rules.specs.declared.Line.TheVariants.{Unsegmented, Broken, Restart, Start, Final, Next}
 use Rattle.rules.proofs.Answers.{segment-by}
 use Rattle.rules.proofs.Arrival.{losses-few, arrival-by, whole_parts}
 
-effect-one : (line : Line) (t : Table) (store : List ℕ) (key : Key) (f : Fields) (octets : List ℕ) (place : Found) (p : Place) (room : Found)
+effect-one : (line : Line) (t : Table) (store : List ℕ) (key : Key) (f : Fields) (octets : List ℕ) (place : Option ℕ) (p : Place) (room : Option ℕ)
     → length (effect_of line t store key f octets place p room).records ≤ 1
 unfolding effect_of
 effect-one Unsegmented t store key f octets place p room = omega arith

@@ -1,5 +1,5 @@
 -- What a tally, a seat and a bill do to a summary's numbers, and whether the totals then fit.
-use Rattle.std.specs.Prelude.{if◌then◌else◌}
+use Rattle.std.specs.Prelude.{if◌then◌else◌, Option, Some, None}
 use Prim.Native.Nat.{ℕ, ◌+◌, ◌*◌, ◌-◌, ◌<◌, ◌≤◌, ◌^◌}
 use mathlib.Core.Path.{◌≡◌, refl, sym, ap, ◌∙◌}
 use mathlib.Core.Bool.{Bool, true, false, ◌&&◌, ◌||◌, and-true, and-false, and-eq-true_iff}
@@ -11,8 +11,6 @@ use lib.ListN.{length, get_or, set, length-set}
 use lib.Seq.{get_or-set_same, get_or-set_other}
 use Rattle.rules.specs.Records.{delivered}
 use Rattle.rules.specs.Summary.{total_count, total_most, total_fits, fits, number_at, tally, seat, row_of, row_for, took_at, took, column_of, bill_at, bill, billed, room_in}
-use Rattle.rules.specs.declared.Found.{Found}
-use Rattle.rules.specs.declared.Found.TheVariants.{At, Nothing}
 use Rattle.rules.specs.declared.Record.{Record}
 use Rattle.rules.proofs.Below.{below_both, below-same, below-from, below_two}
 use Rattle.rules.proofs.Rows.{total-count, row-of-within, row-for-within}
@@ -171,9 +169,9 @@ module _ (m : List ℕ) (row a : ℕ) where
 
 -- TAKING
 
-pub length-took-at : (m : List ℕ) (r : Found) (a n : ℕ) → length (took_at m r a n) ≡ length m
-length-took-at m (At row) a n = length-tally (seat m row a) 2 row 1 n ∙ length-seat m row a
-length-took-at m Nothing a n = refl
+pub length-took-at : (m : List ℕ) (r : Option ℕ) (a n : ℕ) → length (took_at m r a n) ≡ length m
+length-took-at m (Some row) a n = length-tally (seat m row a) 2 row 1 n ∙ length-seat m row a
+length-took-at m None a n = refl
 
 pub length-took : (m : List ℕ) (a n : ℕ) → length (took m a n) ≡ length m
 length-took m a n = length-took-at m (row_for m a) a n
@@ -182,13 +180,13 @@ length-took m a n = length-took-at m (row_for m a) a n
 pub took-totals-grow : (m : List ℕ) (a n : ℕ) → length m ≡ 512 → (k : ℕ) → get_or m (128 + k) 0 ≤ get_or (took m a n) (128 + k) 0
 took-totals-grow m a n long k = go (row_for m a) refl
   where
-    go : (r : Found) → row_for m a ≡ r → get_or m (128 + k) 0 ≤ get_or (took_at m r a n) (128 + k) 0
-    go (At row) e =
+    go : (r : Option ℕ) → row_for m a ≡ r → get_or m (128 + k) 0 ≤ get_or (took_at m r a n) (128 + k) 0
+    go (Some row) e =
         let hr = row-for-within m a row e in
         omega (arith, seat-totals m row a hr k, tally-grows (seat m row a) 2 row 1 n (length-seat m row a ∙ long) (omega arith) hr (128 + k))
-    go Nothing e = omega arith
+    go None e = omega arith
 
-pub fits-took : (m : List ℕ) (a n row : ℕ) → length m ≡ 512 → row_for m a ≡ At row → fits m (took m a n) ≡ room_in m 2 row 1 n
+pub fits-took : (m : List ℕ) (a n row : ℕ) → length m ≡ 512 → row_for m a ≡ Some row → fits m (took m a n) ≡ room_in m 2 row 1 n
 fits-took m a n row long e = rw e (fits-seated m row a (row-for-within m a row e) long 1 n)
 
 -- BILLING
@@ -204,17 +202,17 @@ module _ (m : List ℕ) (r : Record) where
   pub length-bill : length (bill m r) ≡ length m
   length-bill = go (row_of m r.key.association)
     where
-      go : (f : Found) → length (bill_at m f r) ≡ length m
-      go (At row) = length-tally m (column_of r.kind) row r.segments r.octets
-      go Nothing = refl
+      go : (f : Option ℕ) → length (bill_at m f r) ≡ length m
+      go (Some row) = length-tally m (column_of r.kind) row r.segments r.octets
+      go None = refl
 
   pub bill-grows : length m ≡ 512 → (k : ℕ) → get_or m k 0 ≤ get_or (bill m r) k 0
   bill-grows long k = go (row_of m r.key.association) refl
     where
-      go : (f : Found) → row_of m r.key.association ≡ f → get_or m k 0 ≤ get_or (bill_at m f r) k 0
-      go (At row) e =
+      go : (f : Option ℕ) → row_of m r.key.association ≡ f → get_or m k 0 ≤ get_or (bill_at m f r) k 0
+      go (Some row) e =
           tally-grows m (column_of r.kind) row r.segments r.octets long (column-within r.kind).1 (row-of-within m r.key.association row e) k
-      go Nothing e = omega arith
+      go None e = omega arith
 
 pub length-billed : (m : List ℕ) (rs : List Record) → length (billed m rs) ≡ length m
 length-billed m [] = refl

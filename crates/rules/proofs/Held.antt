@@ -1,4 +1,5 @@
 -- What a place of a sound table holds.
+use Rattle.std.specs.Prelude.{Option, Some, None}
 use Prim.Native.Nat.{ℕ, zero, suc, ◌≤◌, ◌<◌}
 use mathlib.Core.Path.{◌≡◌, refl}
 use mathlib.Core.Bool.{Bool, true, false, ◌||◌, and-eq-true_iff}
@@ -13,8 +14,6 @@ use Rattle.rules.specs.declared.Entry.{Entry}
 use Rattle.rules.specs.declared.Key.{Key}
 use Rattle.rules.specs.declared.Place.{Place}
 use Rattle.rules.specs.declared.Table.{Table}
-use Rattle.rules.specs.declared.Found.{Found}
-use Rattle.rules.specs.declared.Found.TheVariants.{At, Nothing}
 use Rattle.rules.proofs.Places.{IsFirst, place_is}
 use Rattle.rules.proofs.Soundness.{sound-parts, open-parts}
 
@@ -52,9 +51,9 @@ held-open registry timer clock p e =
 pub held : (t : Table) (k : Key) → sound t ≡ true → Held (place_at t.places (place_of k t.places))
 held t k s = go (place_of k t.places) (place_is k t.places)
   where
-    go : (f : Found) → IsFirst (holds k) t.places f → Held (place_at t.places f)
-    go (At i) h =
+    go : (f : Option ℕ) → IsFirst (holds k) t.places f → Held (place_at t.places f)
+    go (Some i) h =
         let p : Place = get_or t.places i no_place in
         let ok = every-at (place_sound t.registry t.timer t.clock) t.places no_place i (places-sound t s) h.0 in
         held-open t.registry t.timer t.clock p (open_is t.registry t.timer t.clock p ok ((and-eq-true_iff _ _).0 h.1).0)
-    go Nothing h = record { octets = omega arith; segments = omega arith }
+    go None h = record { octets = omega arith; segments = omega arith }

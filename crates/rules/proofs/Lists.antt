@@ -1,5 +1,5 @@
 -- A loop over a list: what is left at turn i is the element at i and what is left after it.
-use Rattle.std.specs.Prelude.{if◌then◌else◌}
+use Rattle.std.specs.Prelude.{if◌then◌else◌, Option, Some, None}
 use Prim.Native.Nat.{ℕ, ◌+◌, ◌<◌, ◌≤◌}
 use mathlib.Core.Path.{◌≡◌, sym, ◌∙◌}
 use mathlib.Core.Bool.{Bool, true, false, ◌&&◌}
@@ -12,8 +12,6 @@ use lib.Seq.{drop-cons}
 use Rattle.rules.specs.General.{every, every_two}
 use Rattle.rules.specs.Places.{no_place, first_from, same_octets}
 use Rattle.rules.specs.declared.Place.{Place}
-use Rattle.rules.specs.declared.Found.{Found}
-use Rattle.rules.specs.declared.Found.TheVariants.{At, Nothing}
 
 pub left : {A : Type 0} (l : List A) (d : A) (i : ℕ) → i < length l → drop i l ≡ get_or l i d ∷ drop (i + 1) l
 left l d i h = rw add-one (drop-cons l i d h)
@@ -46,17 +44,17 @@ module _ {A : Type 0} (f : A → A → Bool) (l : List A) (d : A) (i : ℕ) (w :
   two-end h = sym (inv ∙ rw (drop_of_length-le l h))
 
 -- the first place that passes
-module _ (f : Place → Bool) (l : List Place) (i : ℕ) (w : Found) (inv : w ≡ first_from f (drop i l) i) where
-  step-first : i < length l → w ≡ (if f (get_or l i no_place) then At i else first_from f (drop (i + 1) l) (i + 1))
+module _ (f : Place → Bool) (l : List Place) (i : ℕ) (w : Option ℕ) (inv : w ≡ first_from f (drop i l) i) where
+  step-first : i < length l → w ≡ (if f (get_or l i no_place) then Some i else first_from f (drop (i + 1) l) (i + 1))
   step-first h = inv ∙ rw (left l no_place i h)
 
-  pub first_found : i < length l → f (get_or l i no_place) ≡ true → At i ≡ w
+  pub first_found : i < length l → f (get_or l i no_place) ≡ true → Some i ≡ w
   first_found h e = sym (step-first h ∙ simp e)
 
   pub first_goes : i < length l → f (get_or l i no_place) ≡ false → w ≡ first_from f (drop (i + 1) l) (i + 1)
   first_goes h e = step-first h ∙ simp e
 
-  pub first_ends : length l ≤ i → Nothing ≡ w
+  pub first_ends : length l ≤ i → None ≡ w
   first_ends h = sym (inv ∙ rw (drop_of_length-le l h))
 
 -- whether two lists have the same octets

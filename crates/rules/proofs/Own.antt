@@ -1,5 +1,5 @@
 -- A segment changes at most its own place's entry in the table, and of the store only the octets of the newly saved information.
-use Rattle.std.specs.Prelude.{if◌then◌else◌}
+use Rattle.std.specs.Prelude.{if◌then◌else◌, Option, Some, None}
 use Prim.Native.Nat.{ℕ, suc, ◌+◌, ◌≤◌, ◌<◌}
 use mathlib.Core.Path.{◌≡◌, refl, sym, ◌∙◌}
 use mathlib.Core.Bool.{Bool, true, false}
@@ -20,8 +20,6 @@ use Rattle.rules.specs.declared.Place.{Place}
 use Rattle.rules.specs.declared.Table.{Table}
 use Rattle.rules.specs.declared.Heading.{Heading}
 use Rattle.rules.specs.declared.Fields.{Fields}
-use Rattle.rules.specs.declared.Found.{Found}
-use Rattle.rules.specs.declared.Found.TheVariants.{At, Nothing}
 use Rattle.rules.specs.declared.Line.{Line}
 use Rattle.rules.specs.declared.Line.TheVariants.{Unsegmented, Broken, Restart, Start, Final, Next}
 use Rattle.rules.proofs.Answers.{segment-by, segment-accepted}
@@ -30,15 +28,15 @@ use Rattle.rules.proofs.Reading.{parameter-short}
 use Rattle.rules.proofs.Lines.{line-cases}
 
 -- the place that is a segment's own: its key's where the key is open, else the lowest free one
-abbrev pub own_of : Found → Found → Found
+abbrev pub own_of : Option ℕ → Option ℕ → Option ℕ
 own_of place vacant = if is_at place then place else vacant
 
-abbrev pub own_place : Table → ℕ → List ℕ → Found
+abbrev pub own_place : Table → ℕ → List ℕ → Option ℕ
 own_place t association s = own_of (place_of (key_of association s (fields_of t.registry s)) t.places) (lowest_free t.places)
 
 -- of the table no other place's entry changes, and nothing beside the places
-pub record OwnPlace (own : Found) (before after : Table) : Type 0 where
-  pub others : (j : ℕ) → (own ≡ At j → ⊥) → get_or after.places j no_place ≡ get_or before.places j no_place
+pub record OwnPlace (own : Option ℕ) (before after : Table) : Type 0 where
+  pub others : (j : ℕ) → (own ≡ Some j → ⊥) → get_or after.places j no_place ≡ get_or before.places j no_place
   pub count : length after.places ≡ length before.places
   pub registry : after.registry ≡ before.registry
   pub timer : after.timer ≡ before.timer
@@ -63,7 +61,7 @@ saved_before Final p = p.octets
 saved_before Next p = p.octets
 
 -- where the information goes
-abbrev pub from_of : Line → List Place → Found → ℕ
+abbrev pub from_of : Line → List Place → Option ℕ → ℕ
 from_of line ps own = place_start (number_of own) + saved_before line (place_at ps own)
 
 abbrev pub saved_from : Table → ℕ → List ℕ → ℕ
@@ -82,20 +80,20 @@ pub record OwnOctets (inside : ℕ → Type 0) (before after : List ℕ) : Type 
   pub others : (j : ℕ) → (inside j → ⊥) → get_or after j 0 ≡ get_or before j 0
 
 -- what stays of the places and of the store
-record KeptPlaces (own : Found) (ps ps' : List Place) : Type 0 where
-  others : (j : ℕ) → (own ≡ At j → ⊥) → get_or ps' j no_place ≡ get_or ps j no_place
+record KeptPlaces (own : Option ℕ) (ps ps' : List Place) : Type 0 where
+  others : (j : ℕ) → (own ≡ Some j → ⊥) → get_or ps' j no_place ≡ get_or ps j no_place
   count : length ps' ≡ length ps
 
 record KeptOctets (saving : Bool) (from n : ℕ) (store store' : List ℕ) : Type 0 where
   count : length store' ≡ length store
   others : (j : ℕ) → (saving ≡ true → from ≤ j → j < from + n → ⊥) → get_or store' j 0 ≡ get_or store j 0
 
-same-places : (own : Found) (ps : List Place) → KeptPlaces own ps ps
+same-places : (own : Option ℕ) (ps : List Place) → KeptPlaces own ps ps
 same-places own ps = record { others = λ j e. refl; count = refl }
 
-put-places : (own : Found) (ps : List Place) (p : Place) → KeptPlaces own ps (put_place ps own p)
-put-places (At i) ps p = record { others = λ j e. get_or-set_other ps i j p no_place (λ q. e (rw q)); count = length-set ps i p }
-put-places Nothing ps p = same-places Nothing ps
+put-places : (own : Option ℕ) (ps : List Place) (p : Place) → KeptPlaces own ps (put_place ps own p)
+put-places (Some i) ps p = record { others = λ j e. get_or-set_other ps i j p no_place (λ q. e (rw q)); count = length-set ps i p }
+put-places None ps p = same-places None ps
 
 same-octets : (saving : Bool) (from n : ℕ) (store : List ℕ) → KeptOctets saving from n store store
 same-octets saving from n store = record { count = refl; others = λ j h. refl }
@@ -113,49 +111,49 @@ never : {A : Type 0} → true ≡ false → A
 never e = absurd (let z : ◌≡◌ {A = ℕ} 0 1 = cc in omega arith)
 
 -- what stays where a line has this effect
-abbrev Kept : List Place → List ℕ → List ℕ → Found → Line → Effect → Type 0
+abbrev Kept : List Place → List ℕ → List ℕ → Option ℕ → Line → Effect → Type 0
 Kept ps store octets own line e = KeptPlaces own ps e.places × KeptOctets (saves line) (from_of line ps own) (length octets) store e.store
 
 -- every line, at a key's place or where it has none
-module _ (t : Table) (store : List ℕ) (key : Key) (f : Fields) (octets : List ℕ) (vacant : Found) where
+module _ (t : Table) (store : List ℕ) (key : Key) (f : Fields) (octets : List ℕ) (vacant : Option ℕ) where
   abbrev ps : List Place
   ps = t.places
 
-  abbrev For : Found → Line → Type 0
+  abbrev For : Option ℕ → Line → Type 0
   For place line = Kept ps store octets (own_of place vacant) line (effect_of line t store key f octets place (place_at ps place) vacant)
 
-  alone : (place : Found) → For place Unsegmented
+  alone : (place : Option ℕ) → For place Unsegmented
   unfolding effect_of
   alone place = (same-places _ ps, same-octets _ _ _ store)
 
-  broken : (cause : ℕ) (place : Found) → For place (Broken cause)
+  broken : (cause : ℕ) (place : Option ℕ) → For place (Broken cause)
   unfolding effect_of
-  broken cause (At i) = (put-places (At i) ps _, same-octets _ _ _ store)
-  broken cause Nothing = (same-places _ ps, same-octets _ _ _ store)
+  broken cause (Some i) = (put-places (Some i) ps _, same-octets _ _ _ store)
+  broken cause None = (same-places _ ps, same-octets _ _ _ store)
 
-  each_line : (place : Found) → For place (line_of (is_at place) (place_at ps place).remaining.0 (place_at ps place).octets f.heading (length octets))
+  each_line : (place : Option ℕ) → For place (line_of (is_at place) (place_at ps place).remaining.0 (place_at ps place).octets f.heading (length octets))
   unfolding effect_of
-  each_line (At i) =
-      line-cases (For (At i)) true _ _ f.heading (length octets)
+  each_line (Some i) =
+      line-cases (For (Some i)) true _ _ f.heading (length octets)
       record {
-        unsegmented = λ n r. alone (At i);
-        beyond = λ r. broken 4 (At i);
-        restart = λ n o r m. (put-places (At i) ps _, saved-octets _ octets store);
+        unsegmented = λ n r. alone (Some i);
+        beyond = λ r. broken 4 (Some i);
+        restart = λ n o r m. (put-places (Some i) ps _, saved-octets _ octets store);
         start = λ n o r m. never o;
         stray = λ n o m. never o;
-        gap = λ n o m e. broken 2 (At i);
-        over = λ n o m e l. broken 5 (At i);
-        final = λ n o r e l. (put-places (At i) ps _, saved-octets _ octets store);
-        next = λ n o r m e l. (put-places (At i) ps _, saved-octets _ octets store);
+        gap = λ n o m e. broken 2 (Some i);
+        over = λ n o m e l. broken 5 (Some i);
+        final = λ n o r e l. (put-places (Some i) ps _, saved-octets _ octets store);
+        next = λ n o r m e l. (put-places (Some i) ps _, saved-octets _ octets store);
       }
-  each_line Nothing =
-      line-cases (For Nothing) false _ _ f.heading (length octets)
+  each_line None =
+      line-cases (For None) false _ _ f.heading (length octets)
       record {
-        unsegmented = λ n r. alone Nothing;
-        beyond = λ r. broken 4 Nothing;
+        unsegmented = λ n r. alone None;
+        beyond = λ r. broken 4 None;
         restart = λ n o r m. never (sym o);
         start = λ n o r m. (put-places vacant ps _, saved-octets _ octets store);
-        stray = λ n o m. broken 1 Nothing;
+        stray = λ n o m. broken 1 None;
         gap = λ n o m e. never (sym o);
         over = λ n o m e l. never (sym o);
         final = λ n o r e l. never (sym o);
@@ -179,9 +177,9 @@ fits is_open before saved g n p short same =
       next = λ a o r m q l e. let z = same o in omega arith;
     }
 
-own_open : (ps : List Place) (place vacant : Found) → is_at place ≡ true → (place_at ps (own_of place vacant)).octets ≡ (place_at ps place).octets
-own_open ps (At i) vacant e = refl
-own_open ps Nothing vacant e = never (sym e)
+own_open : (ps : List Place) (place vacant : Option ℕ) → is_at place ≡ true → (place_at ps (own_of place vacant)).octets ≡ (place_at ps place).octets
+own_open ps (Some i) vacant e = refl
+own_open ps None vacant e = never (sym e)
 
 module _ (t : Table) (m store report : List ℕ) (association : ℕ) (s : List ℕ) where
   abbrev f : Fields
@@ -208,7 +206,7 @@ module _ (t : Table) (m store report : List ℕ) (association : ℕ) (s : List �
   pub own-stretch : (j : ℕ) → NewlySaved t m store report association s j
       → (place_start (number_of (own_place t association s)) ≤ j) × (j < place_start (number_of (own_place t association s)) + stretch_length)
   own-stretch j w =
-      let place : Found = place_of (key_of association s f) t.places in
+      let place : Option ℕ = place_of (key_of association s f) t.places in
       let there : Place = place_at t.places place in
       let own : Place = place_at t.places (own_place t association s) in
       let short = parameter-short t.registry s (arrived t store report association s (segment-accepted t m store report association s w.carried).0.own).reading in

@@ -1,5 +1,5 @@
 -- The first place that passes a test is what its name says; so are the place of a key and the lowest free place.
-use Rattle.std.specs.Prelude.{if◌then◌else◌}
+use Rattle.std.specs.Prelude.{if◌then◌else◌, Option, Some, None}
 use Prim.Native.Nat.{ℕ, zero, suc, ◌+◌, ◌<◌}
 use mathlib.Core.Path.{◌≡◌, refl}
 use mathlib.Core.Bool.{Bool, true, false}
@@ -10,19 +10,17 @@ use lib.ListN.{length, get_or}
 use Rattle.rules.specs.Places.{no_place, first_from, holds, is_free, place_of, lowest_free}
 use Rattle.rules.specs.declared.Key.{Key}
 use Rattle.rules.specs.declared.Place.{Place}
-use Rattle.rules.specs.declared.Found.{Found}
-use Rattle.rules.specs.declared.Found.TheVariants.{At, Nothing}
 
 -- it passes the test and none before it does; or none does
-abbrev pub IsFirst : (Place → Bool) → List Place → Found → Type 0
-IsFirst test ps (At i) = (i < length ps) × (test (get_or ps i no_place) ≡ true) × ((j : ℕ) → j < i → test (get_or ps j no_place) ≡ false)
-IsFirst test ps Nothing = (j : ℕ) → j < length ps → test (get_or ps j no_place) ≡ false
+abbrev pub IsFirst : (Place → Bool) → List Place → Option ℕ → Type 0
+IsFirst test ps (Some i) = (i < length ps) × (test (get_or ps i no_place) ≡ true) × ((j : ℕ) → j < i → test (get_or ps j no_place) ≡ false)
+IsFirst test ps None = (j : ℕ) → j < length ps → test (get_or ps j no_place) ≡ false
 
-abbrev later : Found → Found
-later (At i) = At (i + 1)
-later Nothing = Nothing
+abbrev later : Option ℕ → Option ℕ
+later (Some i) = Some (i + 1)
+later None = None
 
-later-if : (b : Bool) (i : ℕ) (r s : Found) → r ≡ later s → if b then At (i + 1) else r ≡ later (if b then At i else s)
+later-if : (b : Bool) (i : ℕ) (r s : Option ℕ) → r ≡ later s → if b then Some (i + 1) else r ≡ later (if b then Some i else s)
 later-if true i r s e = refl
 later-if false i r s e = e
 
@@ -35,11 +33,11 @@ module _ (test : Place → Bool) (p : Place) (ps : List Place) where
   below e i h zero l = e
   below e i h (suc j) l = h j (omega arith)
 
-  passed : test p ≡ false → (r : Found) → IsFirst test ps r → IsFirst test (p ∷ ps) (later r)
-  passed e (At i) h = rw add-one (omega arith, h.1, below e i h.2)
-  passed e Nothing h = below e (length ps) h
+  passed : test p ≡ false → (r : Option ℕ) → IsFirst test ps r → IsFirst test (p ∷ ps) (later r)
+  passed e (Some i) h = rw add-one (omega arith, h.1, below e i h.2)
+  passed e None h = below e (length ps) h
 
-  first_of : (b : Bool) → test p ≡ b → (r : Found) → IsFirst test ps r → IsFirst test (p ∷ ps) (if b then At 0 else later r)
+  first_of : (b : Bool) → test p ≡ b → (r : Option ℕ) → IsFirst test ps r → IsFirst test (p ∷ ps) (if b then Some 0 else later r)
   first_of true e r h = (omega arith, e, λ j l. let z : ⊥ = omega arith in absurd z)
   first_of false e r h = passed e r h
 

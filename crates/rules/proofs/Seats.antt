@@ -1,5 +1,5 @@
 -- A sound summary stays sound through what a call counts, and an association that has a row keeps it.
-use Rattle.std.specs.Prelude.{if◌then◌else◌}
+use Rattle.std.specs.Prelude.{if◌then◌else◌, Option, Some, None}
 use Prim.Native.Nat.{ℕ, ◌+◌, ◌*◌, ◌≤◌, ◌<◌}
 use mathlib.Core.Path.{◌≡◌, refl, sym, ◌∙◌}
 use mathlib.Core.Bool.{Bool, true, false, not, ◌&&◌, ◌||◌, and-eq-true_iff, true≢false}
@@ -16,8 +16,6 @@ use Rattle.rules.specs.Summary.{every_below, every_pair, or_else, row_count, num
 use Rattle.rules.specs.Summary.{tally, seat, took_at, took, column_of, bill_at, bill, billed}
 use Rattle.rules.specs.declared.Place.{Place}
 use Rattle.rules.specs.declared.Record.{Record}
-use Rattle.rules.specs.declared.Found.{Found}
-use Rattle.rules.specs.declared.Found.TheVariants.{At, Nothing}
 use Rattle.rules.proofs.Below.{below_at, below-from, first-same, first_passes, first-none, first-before, first-is, is_found}
 use Rattle.rules.proofs.Rows.{row_count_lem, row-of-within, row-for-within}
 use Rattle.rules.proofs.Fitting.{tally-other, seat-other, column-within}
@@ -113,9 +111,9 @@ module _ (m : List ℕ) (column row s o : ℕ) (two : 2 ≤ column) (hc : column
           same_row m grown i (λ c h. tally-other m column row s o (64 * c + i) (λ q. other (omega arith)) (λ q. other (omega arith))) ∙ r.each i l
 
 -- A SEGMENT THAT IS TAKEN
-module _ (m : List ℕ) (long : length m ≡ 512) (a row n : ℕ) (for : row_for m a ≡ At row) where
+module _ (m : List ℕ) (long : length m ≡ 512) (a row n : ℕ) (for : row_for m a ≡ Some row) where
   abbrev after : List ℕ
-  after = took_at m (At row) a n
+  after = took_at m (Some row) a n
 
   inside : row < 64
   inside = row-for-within m a row for
@@ -140,14 +138,14 @@ module _ (m : List ℕ) (long : length m ≡ 512) (a row n : ℕ) (for : row_for
       ∙ seat-other m row a (64 * c + i) (λ e. other (omega arith)) (λ e. other (omega arith))
 
   -- it was the association's own, or not used, and then the association had none
-  found-own : (P : Type 0) → (row_of m a ≡ At row → P) → (is_unused m row ≡ true → ((i : ℕ) → i < 64 → is_for m a i ≡ false) → P) → P
+  found-own : (P : Type 0) → (row_of m a ≡ Some row → P) → (is_unused m row ≡ true → ((i : ℕ) → i < 64 → is_for m a i ≡ false) → P) → P
   found-own P own new = go (row_of m a) refl for
     where
-      go : (r : Found) → row_of m a ≡ r → or_else r (unused_row m) ≡ At row → P
-      go (At k) e f = own (e ∙ f)
-      go Nothing e f = new (first_passes (is_unused m) row_count row f).1 (λ i l. first-none (is_for m a) row_count i e (omega (arith, row_count_lem)))
+      go : (r : Option ℕ) → row_of m a ≡ r → or_else r (unused_row m) ≡ Some row → P
+      go (Some k) e f = own (e ∙ f)
+      go None e f = new (first_passes (is_unused m) row_count row f).1 (λ i l. first-none (is_for m a) row_count i e (omega (arith, row_count_lem)))
 
-  mine-for : row_of m a ≡ At row → is_for m a row ≡ true
+  mine-for : row_of m a ≡ Some row → is_for m a row ≡ true
   mine-for own = (first_passes (is_for m a) row_count row own).1
 
   -- no other row is for it
@@ -165,7 +163,7 @@ module _ (m : List ℕ) (long : length m ≡ 512) (a row n : ℕ) (for : row_for
       go own true e false f = let ge = ltb-false i row f in absurd (clash row i own e (r.apart row i (omega (arith, other)) l))
       go own false e c f = refl
 
-  pub took-row-of : row_of after a ≡ At row
+  pub took-row-of : row_of after a ≡ Some row
   took-row-of =
       let hr = inside in
       first-is (is_for after a) row_count row (omega (arith, row_count_lem)) (rw (took-mark, took-name, eq-eqb a a refl))
@@ -213,11 +211,11 @@ module _ (m : List ℕ) (long : length m ≡ 512) (a row n : ℕ) (for : row_for
       at i l h true q = let here : i ≡ row = eqb-true i row q in rw here (mine (rw here at h))
       at i l h false q = rw (took-other 0 i l (eqb-false i row q), took-other 1 i l (eqb-false i row q)) h
 
-      go : (f : Found) → row_of m b ≡ f → is_at f ≡ true → is_at (row_of after b) ≡ true
-      go (At i) q t =
+      go : (f : Option ℕ) → row_of m b ≡ f → is_at f ≡ true → is_at (row_of after b) ≡ true
+      go (Some i) q t =
           let p = first_passes (is_for m b) row_count i q in
           is_found (is_for after b) row_count i p.0 (at i (omega (arith, row_count_lem, p.0)) p.1 (eqb i row) refl)
-      go Nothing q t = absurd (true≢false (sym t))
+      go None q t = absurd (true≢false (sym t))
 
 seated-as : (m m' : List ℕ) → ((b : ℕ) → is_at (row_of m b) ≡ true → is_at (row_of m' b) ≡ true) → (p : Place) → is_seated m p ≡ true → is_seated m' p ≡ true
 seated-as m m' h p e = go (is_open p) e
@@ -231,25 +229,25 @@ pub took-sound : (m : List ℕ) (ps : List Place) (a n : ℕ) → length m ≡ 5
     → (summary_sound (took m a n) ps ≡ true) × (is_at (row_of (took m a n) a) ≡ true)
 took-sound m ps a n long small row s = go (row_for m a) refl row
   where
-    go : (f : Found) → row_for m a ≡ f → is_at f ≡ true → (summary_sound (took_at m f a n) ps ≡ true) × (is_at (row_of (took_at m f a n) a) ≡ true)
-    go (At i) e t =
+    go : (f : Option ℕ) → row_for m a ≡ f → is_at f ≡ true → (summary_sound (took_at m f a n) ps ≡ true) × (is_at (row_of (took_at m f a n) a) ≡ true)
+    go (Some i) e t =
         let r = sound-rows m ps s in (
-          rows-sound (took_at m (At i) a n) ps (took-rows m long a i n e small r.0)
-              (every_more (is_seated m) (is_seated (took_at m (At i) a n)) (seated-as m (took_at m (At i) a n) (took-keeps m long a i n e)) ps r.1),
+          rows-sound (took_at m (Some i) a n) ps (took-rows m long a i n e small r.0)
+              (every_more (is_seated m) (is_seated (took_at m (Some i) a n)) (seated-as m (took_at m (Some i) a n) (took-keeps m long a i n e)) ps r.1),
           rw (took-row-of m long a i n e),
         )
-    go Nothing e t = absurd (true≢false (sym t))
+    go None e t = absurd (true≢false (sym t))
 
 bill-rows : (m : List ℕ) (r : Record) → Rows m → Rows (bill m r) × ((a : ℕ) → row_of (bill m r) a ≡ row_of m a)
 bill-rows m r rows = go (row_of m r.key.association) refl
   where
-    go : (f : Found) → row_of m r.key.association ≡ f → Rows (bill_at m f r) × ((a : ℕ) → row_of (bill_at m f r) a ≡ row_of m a)
-    go (At i) e =
+    go : (f : Option ℕ) → row_of m r.key.association ≡ f → Rows (bill_at m f r) × ((a : ℕ) → row_of (bill_at m f r) a ≡ row_of m a)
+    go (Some i) e =
         let c = column-within r.kind in
         let used = (for-is m r.key.association i (first_passes (is_for m r.key.association) row_count i e).1).0 in
         let within = row-of-within m r.key.association i e in
         (tally-rows m (column_of r.kind) i r.segments r.octets c.0 c.1 within used rows, tally-row-of m (column_of r.kind) i r.segments r.octets c.0 c.1 within)
-    go Nothing e = (rows, λ a. refl)
+    go None e = (rows, λ a. refl)
 
 pub billed-rows : (m : List ℕ) (rs : List Record) → Rows m → Rows (billed m rs) × ((a : ℕ) → row_of (billed m rs) a ≡ row_of m a)
 billed-rows m [] rows = (rows, λ a. refl)

@@ -1,10 +1,10 @@
--- Words that every section uses.
-use Rattle.std.specs.Prelude.{if◌then◌else◌, Bool, true, false, ◌&&◌, List, [], ◌∷◌}
+-- Words that every section uses, in the library's terms.
+use Rattle.std.specs.Prelude.{Bool, true, ◌&&◌, List, [], ◌∷◌, filter}
+use Rattle.std.specs.List.{list_all}
 
 -- every element passes the test
 abbrev pub every : {A : Type 0} → (A → Bool) → List A → Bool
-every test [] = true
-every test (x ∷ xs) = test x && every test xs
+every test xs = list_all test xs
 
 -- every two elements pass the test
 abbrev pub every_two : {A : Type 0} → (A → A → Bool) → List A → Bool
@@ -13,5 +13,4 @@ every_two test (x ∷ xs) = every (test x) xs && every_two test xs
 
 -- the elements that pass the test, in their order
 abbrev pub those : {A : Type 0} → (A → Bool) → List A → List A
-those test [] = []
-those test (x ∷ xs) = if test x then x ∷ those test xs else those test xs
+those test xs = filter test xs

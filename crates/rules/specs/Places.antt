@@ -1,11 +1,10 @@
 -- Places, and the key that tells sequences apart.
-use Rattle.std.specs.Prelude.{if◌then◌else◌, ℕ, ◌+◌, Bool, true, false, ◌&&◌, List, [], ◌∷◌, eqb, get_or, set, replicate}
+use Rattle.std.specs.Prelude.{if◌then◌else◌, ℕ, ◌+◌, Bool, true, false, ◌&&◌, List, [], ◌∷◌, eqb, get_or, set, replicate, Option, Some, None}
+use Rattle.std.specs.List.{position_from}
 use Rattle.rules.specs.Numbers.{address_most, place_count}
 use Rattle.rules.specs.declared.Address.{Address}
 use Rattle.rules.specs.declared.Key.{Key}
 use Rattle.rules.specs.declared.Place.{Place}
-use Rattle.rules.specs.declared.Found.{Found}
-use Rattle.rules.specs.declared.Found.TheVariants.{At, Nothing}
 
 -- the same octets, as many
 abbrev pub same_octets : List ℕ → List ℕ → Bool
@@ -68,37 +67,36 @@ abbrev pub no_place : Place
 no_place = zero_place []
 
 -- the first place, from number i on, that passes the test
-abbrev pub first_from : (Place → Bool) → List Place → ℕ → Found
-first_from test [] i = Nothing
-first_from test (p ∷ ps) i = if test p then At i else first_from test ps (i + 1)
+abbrev pub first_from : (Place → Bool) → List Place → ℕ → Option ℕ
+first_from test ps i = position_from test i ps
 
 -- the place of a key
-abbrev pub place_of : Key → List Place → Found
+abbrev pub place_of : Key → List Place → Option ℕ
 place_of k ps = first_from (holds k) ps 0
 
 -- the place for a new sequence: the lowest free one
-abbrev pub lowest_free : List Place → Found
+abbrev pub lowest_free : List Place → Option ℕ
 lowest_free ps = first_from is_free ps 0
 
-abbrev pub is_at : Found → Bool
-is_at (At i) = true
-is_at Nothing = false
+abbrev pub is_at : Option ℕ → Bool
+is_at (Some i) = true
+is_at None = false
 
 -- its number; none is past the last
-abbrev pub number_of : Found → ℕ
-number_of (At i) = i
-number_of Nothing = place_count
+abbrev pub number_of : Option ℕ → ℕ
+number_of (Some i) = i
+number_of None = place_count
 
 -- the place of a number
-abbrev pub found_at : ℕ → Found
-found_at i = if eqb i place_count then Nothing else At i
+abbrev pub found_at : ℕ → Option ℕ
+found_at i = if eqb i place_count then None else Some i
 
 -- what stands there; nothing is saved where no place was found
-abbrev pub place_at : List Place → Found → Place
-place_at ps (At i) = get_or ps i no_place
-place_at ps Nothing = free_place
+abbrev pub place_at : List Place → Option ℕ → Place
+place_at ps (Some i) = get_or ps i no_place
+place_at ps None = free_place
 
 -- the places with another one there
-abbrev pub put_place : List Place → Found → Place → List Place
-put_place ps (At i) p = set ps i p
-put_place ps Nothing p = ps
+abbrev pub put_place : List Place → Option ℕ → Place → List Place
+put_place ps (Some i) p = set ps i p
+put_place ps None p = ps

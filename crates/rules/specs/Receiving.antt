@@ -1,5 +1,5 @@
 -- Section 'Receiving'.
-use Rattle.std.specs.Prelude.{if◌then◌else◌, ℕ, ◌+◌, Bool, true, false, not, ◌&&◌, List, [], ◌∷◌, ◌++◌, eqb, ltb, length, take, drop}
+use Rattle.std.specs.Prelude.{if◌then◌else◌, ℕ, ◌+◌, Bool, true, false, not, ◌&&◌, List, [], ◌∷◌, ◌++◌, eqb, ltb, length, take, drop, Option}
 use Rattle.octets.specs.Splice.{splice}
 use Rattle.rules.specs.Numbers.{data_most, store_least, place_start}
 use Rattle.rules.specs.Refusals.{Check, ◌when◌, ◌for◌under◌, judged_at, nowhere}
@@ -17,7 +17,6 @@ use Rattle.rules.specs.declared.Heading.{Heading}
 use Rattle.rules.specs.declared.Fields.{Fields}
 use Rattle.rules.specs.declared.Record.{Record}
 use Rattle.rules.specs.declared.Fault.{Fault}
-use Rattle.rules.specs.declared.Found.{Found}
 use Rattle.rules.specs.declared.Part.TheVariants.{OfParameter, OfStore}
 use Rattle.rules.specs.declared.Line.{Line}
 use Rattle.rules.specs.declared.Line.TheVariants.{Unsegmented, Broken, Restart, Start, Final, Next}
@@ -103,7 +102,7 @@ abbrev effect : Decision → List Record → List Place → List ℕ → Effect
 effect d rs ps store = record { decision = d; records = rs; places = ps; store = store }
 
 -- a segment of `key` with fields f and these octets: `place` is its key's, with p there, and `vacant` is where a new sequence goes
-unfoldable pub effect_of : Line → Table → List ℕ → Key → Fields → List ℕ → Found → Place → Found → Effect
+unfoldable pub effect_of : Line → Table → List ℕ → Key → Fields → List ℕ → Option ℕ → Place → Option ℕ → Effect
 effect_of Unsegmented t store key f octets place p vacant =
     let d : Decision = Delivered (OfParameter f.information (length octets)) in
     effect d (record_of d key f.heading.instruction 1 (length octets) ∷ []) t.places store
@@ -144,7 +143,7 @@ with_places t ps = record { places = ps; registry = t.registry; timer = t.timer;
 -- the line of a segment at a table
 abbrev pub line_at : Table → Key → Heading → ℕ → Line
 line_at t key g n =
-    let place : Found = place_of key t.places in
+    let place : Option ℕ = place_of key t.places in
     let p : Place = place_at t.places place in
     line_of (is_at place) p.remaining.0 p.octets g n
 
@@ -195,7 +194,7 @@ received_at t store report association s =
     let f : Fields = fields_of t.registry s in
     let key : Key = key_of association s f in
     let octets : List ℕ = information_of s f in
-    let place : Found = place_of key t.places in
+    let place : Option ℕ = place_of key t.places in
     reception_of t report
     (effect_of (line_at t key f.heading (length octets)) t store key f octets place (place_at t.places place) (lowest_free t.places))
 

@@ -1,6 +1,6 @@
 -- Document 02, A1: totals for each lessee, kept beside the table in a summary of 512 numbers. They are 64 rows of eight, and stand column by column: all rows' marks, all rows'
 -- associations, then the totals, segments and octets of each: taken, delivered, lost.
-use Rattle.std.specs.Prelude.{if◌then◌else◌, ℕ, zero, suc, ◌+◌, ◌*◌, ◌^◌, Bool, true, not, ◌&&◌, ◌||◌, List, [], ◌∷◌, ◌++◌, eqb, leb, length, get_or, set, replicate}
+use Rattle.std.specs.Prelude.{if◌then◌else◌, ℕ, zero, suc, ◌+◌, ◌*◌, ◌^◌, Bool, true, not, ◌&&◌, ◌||◌, List, [], ◌∷◌, ◌++◌, eqb, leb, length, get_or, set, replicate, Option, Some, None}
 use Rattle.rules.specs.General.{every}
 use Rattle.rules.specs.Refusals.{Check, ◌when◌, judged, judged_at}
 use Rattle.rules.specs.Layout.{fields_of}
@@ -11,8 +11,6 @@ use Rattle.rules.specs.Sweep.{Sweeping, clock_checks, clock_sweep, release_check
 use Rattle.rules.specs.declared.Place.{Place}
 use Rattle.rules.specs.declared.Table.{Table}
 use Rattle.rules.specs.declared.Record.{Record}
-use Rattle.rules.specs.declared.Found.{Found}
-use Rattle.rules.specs.declared.Found.TheVariants.{At, Nothing}
 
 -- every number below n passes the test
 abbrev pub every_below : ℕ → (ℕ → Bool) → Bool
@@ -23,14 +21,14 @@ every_below (suc n) test = test n && every_below n test
 abbrev pub every_pair : ℕ → (ℕ → ℕ → Bool) → Bool
 every_pair n test = every_below n (λ j. every_below j (λ i. test i j))
 
-abbrev pub or_else : Found → Found → Found
-or_else (At i) other = At i
-or_else Nothing other = other
+abbrev pub or_else : Option ℕ → Option ℕ → Option ℕ
+or_else (Some i) other = Some i
+or_else None other = other
 
 -- the first number below n that passes the test
-abbrev pub first_below : ℕ → (ℕ → Bool) → Found
-first_below zero test = Nothing
-first_below (suc n) test = or_else (first_below n test) (if test n then At n else Nothing)
+abbrev pub first_below : ℕ → (ℕ → Bool) → Option ℕ
+first_below zero test = None
+first_below (suc n) test = or_else (first_below n test) (if test n then Some n else None)
 
 -- up to 64 associations; shut, so that what is said of every row is not written out 64 times
 unfoldable pub row_count : ℕ
@@ -76,15 +74,15 @@ is_bare m row =
 abbrev pub is_for : List ℕ → ℕ → ℕ → Bool
 is_for m association row = is_used m row && eqb (number_at m 1 row) association
 
-abbrev pub row_of : List ℕ → ℕ → Found
+abbrev pub row_of : List ℕ → ℕ → Option ℕ
 row_of m association = first_below row_count (is_for m association)
 
 -- the lowest unused row
-abbrev pub unused_row : List ℕ → Found
+abbrev pub unused_row : List ℕ → Option ℕ
 unused_row m = first_below row_count (is_unused m)
 
 -- the row in which a segment of an association is taken
-abbrev pub row_for : List ℕ → ℕ → Found
+abbrev pub row_for : List ℕ → ℕ → Option ℕ
 row_for m association = or_else (row_of m association) (unused_row m)
 
 -- SOUND beside the places of a table: an unused row is zero, no association has two rows, and each open place's has one
@@ -109,9 +107,9 @@ abbrev pub seat : List ℕ → ℕ → ℕ → List ℕ
 seat m row association = put_number (put_number m 0 row 1) 1 row association
 
 -- TAKING a segment with so many octets of information: the association gets the lowest unused row at its first, and keeps it
-abbrev pub took_at : List ℕ → Found → ℕ → ℕ → List ℕ
-took_at m (At row) association n = tally (seat m row association) 2 row 1 n
-took_at m Nothing association n = m
+abbrev pub took_at : List ℕ → Option ℕ → ℕ → ℕ → List ℕ
+took_at m (Some row) association n = tally (seat m row association) 2 row 1 n
+took_at m None association n = m
 
 abbrev pub took : List ℕ → ℕ → ℕ → List ℕ
 took m association n = took_at m (row_for m association) association n
@@ -120,9 +118,9 @@ took m association n = took_at m (row_for m association) association n
 abbrev pub column_of : ℕ → ℕ
 column_of kind = if eqb kind delivered then 4 else 6
 
-abbrev pub bill_at : List ℕ → Found → Record → List ℕ
-bill_at m (At row) r = tally m (column_of r.kind) row r.segments r.octets
-bill_at m Nothing r = m
+abbrev pub bill_at : List ℕ → Option ℕ → Record → List ℕ
+bill_at m (Some row) r = tally m (column_of r.kind) row r.segments r.octets
+bill_at m None r = m
 
 abbrev pub bill : List ℕ → Record → List ℕ
 bill m r = bill_at m (row_of m r.key.association) r

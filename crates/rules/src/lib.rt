@@ -35,20 +35,20 @@ pub const TOTAL: u64 = 9223372036854775808;
 
 // Segments remaining, local reference and context are separate numbers, and none stands for another.
 #[repr(C)]
-#[derive(Clone, Copy)]
+#[derive(Clone, Copy, PartialEq, Eq)]
 pub struct Remaining(pub u8);
 
 #[repr(C)]
-#[derive(Clone, Copy)]
+#[derive(Clone, Copy, PartialEq, Eq)]
 pub struct Reference(pub u8);
 
 #[repr(C)]
-#[derive(Clone, Copy)]
+#[derive(Clone, Copy, PartialEq, Eq)]
 pub struct Context(pub u16);
 
 // An address: its octets, zero filled, and its length. Both tell addresses apart.
 #[repr(C)]
-#[derive(Clone, Copy)]
+#[derive(Clone, Copy, PartialEq, Eq)]
 pub struct Address {
     pub octets: [u8; ADDRESS],
     pub length: u8,
@@ -56,7 +56,7 @@ pub struct Address {
 
 // What names a sequence.
 #[repr(C)]
-#[derive(Clone, Copy)]
+#[derive(Clone, Copy, PartialEq, Eq)]
 pub struct Key {
     pub association: u16,
     pub context: Context,
@@ -143,13 +143,6 @@ pub struct Fields {
     pub information: usize,
 }
 
-// Which place, if any.
-#[derive(Clone, Copy)]
-pub enum Found {
-    At(usize),
-    Nothing,
-}
-
 // Where delivered octets are: from start on in the parameter, or from the start of a place's stretch of the store.
 #[derive(Clone, Copy)]
 pub enum Part {
@@ -174,7 +167,7 @@ pub enum Decision {
     Refused,
     Saved(usize),
     Delivered(Part),
-    Lost(u8, Found),
+    Lost(u8, Option<usize>),
 }
 
 // The answers of the calls. A refusal of 0 is none; an arrival's has the position of the octet at fault too, or NOWHERE, and how many of the records are the clock's: they stand first.

@@ -1,5 +1,5 @@
 -- The associations of used rows as a list: what it tells of the rows, and how it grows at the front of an array.
-use Rattle.std.specs.Prelude.{if◌then◌else◌}
+use Rattle.std.specs.Prelude.{if◌then◌else◌, Option, Some, None}
 use Prim.Native.Nat.{ℕ, zero, suc, ◌+◌, ◌<◌, ◌≤◌}
 use mathlib.Core.Path.{◌≡◌, refl, sym, ap, ◌∙◌}
 use mathlib.Core.Bool.{Bool, true, false, not, ◌&&◌, and-false, and-eq-true_iff}
@@ -13,8 +13,6 @@ use lib.Seq.{get_or-set_same, get_or-set_other}
 use Rattle.rules.specs.General.{every, every_two}
 use Rattle.rules.specs.Places.{is_at}
 use Rattle.rules.specs.Summary.{every_below, every_pair, first_below, or_else, row_count, number_at, is_used, is_for, row_of, row_sound, rows_apart}
-use Rattle.rules.specs.declared.Found.{Found}
-use Rattle.rules.specs.declared.Found.TheVariants.{At, Nothing}
 use Rattle.sound_rows.specs.Listing.{is_other, of_those, back, low_of, name_fits, listed_in, has_row}
 use Rattle.rules.proofs.Below.{below_at}
 use Rattle.sound_rows.proofs.Sound.{mark_sound, first_of, row_is}
@@ -28,10 +26,10 @@ none_found : (test : ℕ → Bool) (n : ℕ) → every_below n (λ i. not (test 
 none_found test zero = refl
 none_found test (suc n) = rw (none_found test n) (go (first_below n test) (test n))
   where
-    go : (r : Found) (b : Bool) → (not b && not (is_at r)) ≡ not (is_at (or_else r (if b then At n else Nothing)))
-    go (At i) b = and-false (not b)
-    go Nothing true = refl
-    go Nothing false = refl
+    go : (r : Option ℕ) (b : Bool) → (not b && not (is_at r)) ≡ not (is_at (or_else r (if b then Some n else None)))
+    go (Some i) b = and-false (not b)
+    go None true = refl
+    go None false = refl
 
 module _ (chosen : ℕ → Bool) (value : ℕ → ℕ) where
   told-each : (x n : ℕ) → every (is_other x) (of_those chosen value n) ≡ every_below n (λ i. not (chosen i && eqb (value i) x))

@@ -1,12 +1,10 @@
 -- A loss that is billed: as the rules bill a record of kind lost, in the words of the code.
-use Rattle.std.specs.Prelude.{ℕ, List}
+use Rattle.std.specs.Prelude.{ℕ, List, Option, Some, None}
 use Rattle.rules.specs.Summary.{tally, row_of}
-use Rattle.rules.specs.declared.Found.{Found}
-use Rattle.rules.specs.declared.Found.TheVariants.{At, Nothing}
 
-abbrev pub loss_at : List ℕ → Found → ℕ → ℕ → List ℕ
-loss_at m (At row) segments octets = tally m 6 row segments octets
-loss_at m Nothing segments octets = m
+abbrev pub loss_at : List ℕ → Option ℕ → ℕ → ℕ → List ℕ
+loss_at m (Some row) segments octets = tally m 6 row segments octets
+loss_at m None segments octets = m
 
 abbrev pub loss_in : List ℕ → ℕ → ℕ → ℕ → List ℕ
 loss_in m association segments octets = loss_at m (row_of m association) segments octets

@@ -3,7 +3,6 @@
 
 ghost use Rattle.std.specs.Prelude.{if◌then◌else◌, ◌≡◌, true, ◌&&◌, ℕ, ◌+◌, ◌<◌, length};
 ghost use Rattle.rules.specs.Summary.{number_at, row_of, unused_row, row_for, tally, seat, total_fits, fits, empty_summary};
-ghost use Rattle.rules.specs.declared.Found.TheVariants.{At};
 ghost use Rattle.summary.specs.Losses.{loss_in};
 
 use rules::Found;
@@ -22,7 +21,7 @@ pub fn numbers(m: &[u64; rules::SUMMARY]) -> usize
 }
 
 // The row of an association. The mark is asked second: few rows have the name.
-pub fn row_of(m: &[u64; rules::SUMMARY], association: u16) -> Found
+pub fn row_of(m: &[u64; rules::SUMMARY], association: u16) -> Option<usize>
     ensures value { result ≡ row_of m.now association }
     ensures by_index { (i : ℕ) → result ≡ At i → i < 64 }
 {
@@ -30,35 +29,35 @@ pub fn row_of(m: &[u64; rules::SUMMARY], association: u16) -> Found
     let mut i = 0;
     while i < 64 {
         if (m[64 + i] == name) & (m[0 + i] == 1) {
-            return Found::At(i);
+            return Some(i);
         }
         i += 1;
     }
-    Found::Nothing
+    None
 }
 
 // The lowest row that is not used.
-fn unused_row(m: &[u64; rules::SUMMARY]) -> Found
+fn unused_row(m: &[u64; rules::SUMMARY]) -> Option<usize>
     ensures { result ≡ unused_row m.now }
 {
     let mut row = 0;
     while row < 64 {
         if m[0 + row] == 0 {
-            return Found::At(row);
+            return Some(row);
         }
         row += 1;
     }
-    Found::Nothing
+    None
 }
 
 // The row in which a segment of an association is taken.
-pub fn row_for(m: &[u64; rules::SUMMARY], association: u16) -> Found
+pub fn row_for(m: &[u64; rules::SUMMARY], association: u16) -> Option<usize>
     ensures value { result ≡ row_for m.now association }
     ensures by_index { (i : ℕ) → result ≡ At i → i < 64 }
 {
     match row_of(m, association) {
-        Found::At(i) => Found::At(i),
-        Found::Nothing => unused_row(m),
+        Some(i) => Some(i),
+        None => unused_row(m),
     }
 }
 
@@ -143,8 +142,8 @@ pub fn bill_loss(
     ensures m_after { m.new ≡ (if result then loss_in m.old association segments octets else m.old) }
 {
     match row_of(m, association) {
-        Found::At(row) => lose_in(m, row, segments, octets),
-        Found::Nothing => true,
+        Some(row) => lose_in(m, row, segments, octets),
+        None => true,
     }
 }
 

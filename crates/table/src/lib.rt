@@ -1,12 +1,12 @@
 // Places of a table: which has a key, which is free; and ages.
 #![tactic(auto)]
 
-ghost use Rattle.std.specs.Prelude.{◌≡◌, ◌<◌, ◌≤◌};
+ghost use Rattle.std.specs.Prelude.{◌≡◌, ◌<◌, ◌≤◌, ℕ, Option};
 ghost use Rattle.rules.specs.Numbers.{elapsed};
 ghost use Rattle.rules.specs.Places.{same_octets, same_address, same_key, place_of, lowest_free, free_place, found_at};
 ghost use Rattle.table.specs.Seeking.{same_addresses, sooner_of, Points, Seeks};
 
-use rules::{Address, Context, Found, Key, Place, Reference, Remaining};
+use rules::{Address, Context, Key, Place, Reference, Remaining};
 
 // The new time less the old, modulo 2^32: an age, and a step of the clock.
 pub fn elapsed(new: u32, old: u32) -> u32
@@ -84,7 +84,7 @@ fn sooner(found: usize, passes: bool, i: usize) -> usize
 // What a search gives that did not find the key, by the number of the lowest free place; 16 is none.
 fn unfound(vacant: usize) -> Search
     requires { vacant ≤ 16 }
-    ensures { Points Found.Nothing (found_at vacant) result }
+    ensures { Points None (found_at vacant) result }
 {
     if vacant != 16 {
         return Search {
@@ -103,7 +103,7 @@ fn unfound(vacant: usize) -> Search
 // What a search gives that found the key.
 fn found_at(at: usize) -> Search
     requires { at < 16 }
-    ensures { (vacant : Found) → Points (Found.At at) vacant result }
+    ensures { (vacant : Option ℕ) → Points (Some at) vacant result }
 {
     Search {
         at,
@@ -178,17 +178,17 @@ pub fn search_for(places: [Place; 16], k: Key) -> Search
 }
 
 // The lowest free place.
-pub fn lowest_free(places: [Place; 16]) -> Found
+pub fn lowest_free(places: [Place; 16]) -> Option<usize>
     ensures { result ≡ lowest_free places }
 {
     let mut k = 0;
     while k < 16 {
         if places[k].mark == 0 {
-            return Found::At(k);
+            return Some(k);
         }
         k += 1;
     }
-    Found::Nothing
+    None
 }
 
 // A place with nothing in it: all zero.

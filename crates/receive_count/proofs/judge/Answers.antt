@@ -1,7 +1,7 @@
+use Rattle.std.specs.Prelude.{Some, None}
 use mathlib.Core.Path.{refl, sym, ◌∙◌}
 use mathlib.Core.Bool.{true, false}
 use native.Mathlib.Omega.{arith}
-use Rattle.rules.specs.declared.Found.TheVariants.{At, Nothing}
 use Rattle.receive_count.proofs.Counting.{last-number, room-is}
 use Rattle.receive_count.proofs.judge.Goals as goal
 
@@ -15,7 +15,7 @@ returns-then-has_room c =
     let room = sym c.has_room.ensures ∙ c.if-has_room.true in
     let long = c.numbers.ensures.1 in
     record {
-      number = λ key own. sym (last-number a.m.now _ a.association (At _) true for (room-is a.m.now long a.association a.n _ for a.v key own ∙ room));
+      number = λ key own. sym (last-number a.m.now _ a.association (Some _) true for (room-is a.m.now long a.association a.n _ for a.v key own ∙ room));
       row = λ e. for;
       room = λ e. room;
     }
@@ -25,7 +25,7 @@ returns-in-Nothing c =
     let a = c.args in
     let for = sym c.row_for.ensures.value ∙ c.in-Nothing.is in
     record {
-      number = λ key own. sym (last-number a.m.now _ a.association Nothing _ for refl);
+      number = λ key own. sym (last-number a.m.now _ a.association None _ for refl);
       row = λ e. absurd (omega arith);
       room = λ e. absurd (omega arith);
     }
@@ -36,7 +36,7 @@ returns-else-has_room c =
     let for = sym c.row_for.ensures.value ∙ c.in-At.is in
     let long = c.numbers.ensures.1 in
     record {
-      number = λ key own. sym (last-number a.m.now _ a.association (At _) false for (room-is a.m.now long a.association a.n _ for a.v key own ∙ (sym c.has_room.ensures ∙ c.if-has_room.false)));
+      number = λ key own. sym (last-number a.m.now _ a.association (Some _) false for (room-is a.m.now long a.association a.n _ for a.v key own ∙ (sym c.has_room.ensures ∙ c.if-has_room.false)));
       row = λ e. absurd (omega arith);
       room = λ e. absurd (omega arith);
     }
