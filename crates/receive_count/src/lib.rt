@@ -7,7 +7,6 @@ ghost use Rattle.rules.specs.declared.Key.{Key};
 ghost use Rattle.receive_count.specs.Counting.{room_for, added_in, sums_by, OfCount};
 
 use receive_perform::Verdict;
-use rules::Found;
 
 // The row in which a segment is counted, and the refusal of one that cannot be: 21 or 22; 0 is none.
 #[derive(Clone, Copy)]

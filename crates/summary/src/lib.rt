@@ -5,7 +5,6 @@ ghost use Rattle.std.specs.Prelude.{if◌then◌else◌, ◌≡◌, true, ◌&&�
 ghost use Rattle.rules.specs.Summary.{number_at, row_of, unused_row, row_for, tally, seat, total_fits, fits, empty_summary};
 ghost use Rattle.summary.specs.Losses.{loss_in};
 
-use rules::Found;
 
 fn count(s: &[u64]) -> usize
     ensures { result ≡ length s.now }
