@@ -32,3 +32,8 @@ number_of ContextPadded = 23
 abbrev pub number_if : {A : Type 0} → Result A Refusal → ℕ
 number_if (Ok a) = 0
 number_if (Err r) = number_of r
+
+-- a judgement as document 01 tells it: by its refusal's number
+abbrev pub in_numbers : {A : Type 0} → Result A Refusal → Result A ℕ
+in_numbers (Ok a) = Ok a
+in_numbers (Err r) = Err (number_of r)

@@ -1,13 +1,12 @@
 -- Where data is cut, by the lengths of what is cut.
-use Rattle.std.specs.Prelude.{if◌then◌else◌, ℕ, zero, suc, ◌+◌, ◌-◌, ◌*◌, ◌/◌, ◌≤◌, ◌<◌, ◌≡◌, true, false, [], ◌∷◌, leb, ltb}
+use Rattle.std.specs.Prelude.{if◌then◌else◌, ℕ, zero, suc, ◌+◌, ◌-◌, ◌*◌, ◌/◌, ◌≤◌, ◌<◌, ◌≡◌, true, false, [], ◌∷◌, leb, ltb, Result, Ok, Err, IfOk}
+use Rattle.refusals.specs.declared.Refusal.{Refusal}
 use Rattle.rules.specs.Numbers.{segments_most}
 use Rattle.rules.specs.Refusals.{◌when◌, ◌for◌over◌, judged}
 use Rattle.rules.specs.Layout.{has_addresses}
 use Rattle.rules.specs.Sending.{is_segmented, first_carries, later_carries, count_of, cut_checks}
 use Rattle.rules.specs.declared.Request.{Request}
 use Rattle.send_cut.specs.declared.Piece.{Piece}
-use Rattle.send_cut.specs.declared.Plan.{Plan}
-use Rattle.send_cut.specs.declared.Plan.TheVariants.{Cut, NoCut}
 
 -- h, by the lengths of the addresses
 abbrev pub header_for : ℕ → ℕ → ℕ → ℕ → ℕ
@@ -31,17 +30,18 @@ piece_of h q n =
       size = if is_segmented h q n then piece_size (first_carries h q) (later_carries h q) q.number else n;
     }
 
-unfoldable pub plan_of : ℕ → Request → ℕ → Plan
-plan_of h q n = judged (cut_checks h q n) NoCut (Cut (piece_of h q n))
+-- or the number of its refusal
+unfoldable pub plan_of : ℕ → Request → ℕ → Result Piece ℕ
+plan_of h q n = judged (cut_checks h q n) Err (Ok (piece_of h q n))
 
 -- the same where the data is segmented: the first carries a octets, each later one b
 abbrev pub segment_count : ℕ → ℕ → ℕ → ℕ
 segment_count a b n = 1 + (n - a + (b - 1)) / b
 
-unfoldable pub segments_plan : ℕ → ℕ → ℕ → ℕ → Plan
+unfoldable pub segments_plan : ℕ → ℕ → ℕ → ℕ → Result Piece ℕ
 segments_plan a b n k =
-    judged (18 for segment_count a b n over segments_most ∷ 19 when leb (segment_count a b n) k ∷ []) NoCut
-    (Cut (record { count = segment_count a b n; segmented = true; from = piece_from a b k; size = piece_size a b k }))
+    judged (18 for segment_count a b n over segments_most ∷ 19 when leb (segment_count a b n) k ∷ []) Err
+    (Ok (record { count = segment_count a b n; segmented = true; from = piece_from a b k; size = piece_size a b k }))
 
 -- a cut that was made
 pub record Possible (number : ℕ) (p : Piece) : Type 0 where
@@ -49,6 +49,5 @@ pub record Possible (number : ℕ) (p : Piece) : Type 0 where
   pub few : p.count ≤ 10
   pub one : p.segmented ≡ false → p.count ≡ 1
 
-abbrev pub CutPossible : ℕ → Plan → Type 0
-CutPossible number (Cut p) = Possible number p
-CutPossible number (NoCut n) = Unit {0}
+abbrev pub CutPossible : ℕ → Result Piece Refusal → Type 0
+CutPossible number plan = IfOk plan (λ p. Possible number p)

@@ -1,13 +1,13 @@
 -- The sender's steps, one after the other, are the rule of sending.
-use Rattle.std.specs.Prelude.{if◌then◌else◌}
-use Prim.Native.Nat.{ℕ, zero, suc, ◌+◌, ◌-◌, ◌≤◌, ◌<◌}
+use Rattle.std.specs.Prelude.{if◌then◌else◌, Result, Ok, Err}
+use Prim.Native.Nat.{ℕ, zero, suc, ◌+◌, ◌≤◌, ◌<◌}
 use mathlib.Core.Path.{◌≡◌, refl, sym, ap, ◌∙◌}
-use mathlib.Core.Bool.{Bool, true, false, and-eq-true_iff, true≢false}
+use mathlib.Core.Bool.{Bool, true, false, and-eq-true_iff}
 use mathlib.Core.List.{List, [], ◌∷◌, ◌++◌}
 use native.Mathlib.Omega.{arith}
 use borrow.Author.Tests.{ltb-false, eqb-false, not-true, not-false, lt-ltb, le-ltb}
-use lib.Dec.{eqb, ltb}
-use lib.ListN.{length, take, drop, length-append, length-take, length-drop}
+use lib.Dec.{ltb}
+use lib.ListN.{length, take, drop, length-append}
 use lib.Seq.{take_all}
 use Rattle.octets.specs.Splice.{splice}
 use Rattle.rules.specs.Refusals.{Check, ◌for◌under◌, accepted, first, judged}
@@ -22,12 +22,12 @@ use Rattle.rules.specs.declared.Heading.{Heading}
 use Rattle.rules.specs.declared.Request.{Request}
 use Rattle.rules.specs.declared.Sent.{Sent}
 use Rattle.rules.specs.Promises.{OfSending}
-use Rattle.param_write.specs.Writing.{Writable}
-use Rattle.send_cut.specs.Plan.{header_for, piece_of, plan_of}
+use Rattle.refusals.specs.Numbers.{number_of}
+use Rattle.refusals.proofs.Numbers.{number-some}
+use Rattle.refusals.specs.declared.Refusal.{Refusal}
+use Rattle.send_cut.specs.Plan.{header_for, piece_of, plan_of, Possible}
 use Rattle.send_cut.specs.declared.Piece.{Piece}
-use Rattle.send_cut.specs.declared.Plan.{Plan}
-use Rattle.send_cut.specs.declared.Plan.TheVariants.{Cut, NoCut}
-use Rattle.sender.specs.Steps.{octets_with, emitted, Emitted, Ready}
+use Rattle.sender.specs.Steps.{told, octets_with, emitted, Emitted, Ready}
 
 -- what is asked passes its checks
 pub record Asked (sound : Bool) (kind : ℕ) (q : Request) (o d n : ℕ) : Type 0 where
@@ -86,39 +86,6 @@ total-is g o d information = parameter-length g o d information ∙ go (is_unseg
     go true e = simp e (omega arith)
     go false e = simp e (omega arith)
 
--- the heading of a piece's segment, from its reference
-abbrev numbered : ℕ → Request → Piece → ℕ → Heading
-numbered kind q p reference =
-    record {
-      context = q.context;
-      kind = kind;
-      instruction = q.instruction;
-      new = eqb q.number 0;
-      remaining = record { 0 = p.count - 1 - q.number };
-      reference = record { 0 = reference };
-    }
-
-pub heading-is : (kind : ℕ) (q : Request) (p : Piece) (reference : ℕ) → reference ≡ (if p.segmented then q.reference.0 else 255)
-    → numbered kind q p reference ≡ heading_with kind q p.count p.segmented
-heading-is kind q p reference e = ap (numbered kind q p) e
-
--- the heading of a piece can be written
-pub writable : (kind : ℕ) (q : Request) (p : Piece) (h : ℕ) (o d whole : List ℕ) → Ready kind q p h o d whole → Writable (heading_with kind q p.count p.segmented)
-writable kind q p h o d whole r =
-    record {
-      context = r.context;
-      instruction = omega (arith, r.instruction);
-      remaining = omega (arith, r.possible.few);
-      reference = λ alone. go p.segmented refl alone;
-    }
-  where
-    go : (b : Bool) → p.segmented ≡ b → is_unsegmented (eqb q.number 0) (p.count - 1 - q.number) ≡ false → (if b then q.reference.0 else 255) < 128
-    go true e alone = omega (arith, r.reference)
-    go false e alone =
-        let one = r.possible.one e in
-        let none : q.number ≡ 0 = omega (arith, r.possible.below) in
-        absurd (true≢false (rw (one, none) at alone))
-
 -- the last step: the length that it finds, and what it leaves
 module _ (kind : ℕ) (q : Request) (p : Piece) (h : ℕ) (o d whole : List ℕ) (ready : Ready kind q p h o d whole) where
   pub total : (g : Heading) (x : ℕ) (information : List ℕ) → g ≡ heading_with kind q p.count p.segmented → x ≡ (if is_unsegmented g.new g.remaining.0 then 0 else 1)
@@ -148,9 +115,9 @@ carried-is h q whole = go (is_segmented h q (length whole)) refl q.number refl
     go false e k f = simp e (sym (take_all (length whole) whole (omega arith)))
 
 -- after the request, the cut; after the cut, the segment
-abbrev pub after_plan : ℕ → Request → List ℕ → List ℕ → List ℕ → List ℕ → Plan → Sending
-after_plan kind q o d whole area (NoCut n) = unsent area n
-after_plan kind q o d whole area (Cut p) = emitted (octets_with kind q p o d whole) p.count area
+abbrev pub after_plan : ℕ → Request → List ℕ → List ℕ → List ℕ → List ℕ → Result Piece ℕ → Sending
+after_plan kind q o d whole area (Err n) = unsent area n
+after_plan kind q o d whole area (Ok p) = emitted (octets_with kind q p o d whole) p.count area
 
 pub sending-is : (t : Table) (q : Request) (o d whole area : List ℕ) → sending t q o d whole area
     ≡ judged (request_checks (sound t) (kind_of t.registry q.context.0) q (length o) (length d) (length whole)) (unsent area)
@@ -167,7 +134,7 @@ sending-is t q o d whole area =
     judged-append (asks ++ cuts) fits (unsent area) made
     ∙ judged-append asks cuts (unsent area) _
     ∙ ap (λ (r : Sending). judged asks (unsent area) r)
-    (sym (judged-then (after_plan kind q o d whole area) cuts NoCut (Cut (piece_of h q (length whole))) ∙ ap (λ (r : Sending). judged cuts (unsent area) r) (rw (carried-is h q whole))))
+    (sym (judged-then (after_plan kind q o d whole area) cuts Err (Ok (piece_of h q (length whole))) ∙ ap (λ (r : Sending). judged cuts (unsent area) r) (rw (carried-is h q whole))))
 
 -- the three ways out of the call
 module _ (t : Table) (q : Request) (o d whole area : List ℕ) where
@@ -177,7 +144,7 @@ module _ (t : Table) (q : Request) (o d whole area : List ℕ) where
   abbrev asks : List Check
   asks = request_checks (sound t) kind q (length o) (length d) (length whole)
 
-  abbrev plan : Plan
+  abbrev plan : Result Piece ℕ
   plan = plan_of (header_length kind q.context.0 o d) q (length whole)
 
   passed : first asks ≡ 0 → sending t q o d whole area ≡ after_plan kind q o d whole area plan
@@ -190,15 +157,49 @@ module _ (t : Table) (q : Request) (o d whole area : List ℕ) where
   not-asked n e h =
       as-rule (unsent area n) (sending-is t q o d whole area ∙ judged-first asks (unsent area) _ (λ z. h (e ∙ z)) ∙ rw (← e))
 
-  pub not-cut : (n : ℕ) → first asks ≡ 0 → plan ≡ NoCut n → OfSending t q o d whole area (record { refusal = n; count = 0; length = 0 }) area
+  pub not-cut : (n : ℕ) → first asks ≡ 0 → plan ≡ Err n → OfSending t q o d whole area (record { refusal = n; count = 0; length = 0 }) area
   not-cut n e f = as-rule (unsent area n) (passed e ∙ rw f)
 
-  pub is_cut_lem : (p : Piece) (r : Sent) (area' : List ℕ) → first asks ≡ 0 → plan ≡ Cut p → Emitted (octets_with kind q p o d whole) p.count area r area'
+  pub is_cut_lem : (p : Piece) (r : Sent) (area' : List ℕ) → first asks ≡ 0 → plan ≡ Ok p → Emitted (octets_with kind q p o d whole) p.count area r area'
       → OfSending t q o d whole area r area'
   is_cut_lem p r area' e f m =
       let w = as-rule (emitted (octets_with kind q p o d whole) p.count area) (passed e ∙ rw f) in
       record { answered = m.answered ∙ w.answered; written = m.written ∙ w.written }
 
--- a part is no longer than the whole
-pub part-short : (n m : ℕ) (whole : List ℕ) → length (take n (drop m whole)) ≤ length whole
-part-short n m whole = simp (length-take, length-drop) (omega arith)
+-- the same by what the code finds: whether the table is sound, the kind, and h
+abbrev checks_at : Bool → ℕ → Request → List ℕ → List ℕ → List ℕ → List Check
+checks_at good found q o d whole = request_checks good found q (length o) (length d) (length whole)
+
+module _ (t : Table) (q : Request) (o d whole : List ℕ) {good : Bool} {found : ℕ} (is_sound : good ≡ sound t) (is_kind : found ≡ kind_of t.registry q.context.0) where
+  asks-are : first (checks_at good found q o d whole) ≡ first (asks t q o d whole [])
+  asks-are = rw (is_sound, is_kind)
+
+  pub unasked : {area : List ℕ} (r : Refusal) → number_of r ≡ first (checks_at good found q o d whole) → OfSending t q o d whole area (told (Err r)) area
+  unasked {area} r e = not-asked t q o d whole area (number_of r) (e ∙ asks-are) (number-some r)
+
+  module _ (passes : ◌≡◌ {A = ℕ} 0 (first (checks_at good found q o d whole))) {h : ℕ} (is_header : h ≡ header_for found q.context.0 (length o) (length d)) where
+    plan-is : plan_of h q (length whole) ≡ plan t q o d whole []
+    plan-is = rw (is_header ∙ sym (header_is found q.context.0 o d), is_kind)
+
+    pub uncut : {area : List ℕ} (r : Refusal) → Err (number_of r) ≡ plan_of h q (length whole) → OfSending t q o d whole area (told (Err r)) area
+    uncut {area} r e = not-cut t q o d whole area (number_of r) (sym (passes ∙ asks-are)) (sym (e ∙ plan-is))
+
+    pub ready : h ≤ 46 → (p : Piece) → Possible q.number p → Ready found q p h o d whole
+    ready short p possible =
+        let z = asked good found q (length o) (length d) (length whole) (sym passes) in
+        record {
+          possible = possible;
+          header = is_header ∙ sym (header_is found q.context.0 o d);
+          short = short;
+          origin = z.origin;
+          destination = z.destination;
+          size = z.size;
+          context = context-fits t q.context.0 (sym is_sound ∙ z.table) (λ e. z.registered (is_kind ∙ e));
+          instruction = z.instruction;
+          reference = z.reference;
+        }
+
+    pub sent : {area area' : List ℕ} {r : Sent} (p : Piece) → Ok p ≡ plan_of h q (length whole) → Emitted (octets_with found q p o d whole) p.count area r area'
+        → OfSending t q o d whole area r area'
+    sent {area} {area'} {r} p e m =
+        is_cut_lem t q o d whole area p r area' (sym (passes ∙ asks-are)) (sym (e ∙ plan-is)) (rw is_kind at m)

@@ -1,6 +1,8 @@
 -- What the sender's steps answer.
-use Rattle.std.specs.Prelude.{ℕ, ◌≤◌, ◌<◌, ◌≡◌, List, length, take, drop}
+use Rattle.std.specs.Prelude.{ℕ, ◌≤◌, ◌<◌, ◌≡◌, List, length, take, drop, Result, Ok, Err}
 use Rattle.octets.specs.Splice.{splice}
+use Rattle.refusals.specs.Numbers.{number_of}
+use Rattle.refusals.specs.declared.Refusal.{Refusal}
 use Rattle.rules.specs.Refusals.{judged}
 use Rattle.rules.specs.Layout.{parameter_octets}
 use Rattle.rules.specs.Sending.{Sending, header_length, heading_with, fit_checks, unsent}
@@ -8,6 +10,11 @@ use Rattle.rules.specs.declared.Request.{Request}
 use Rattle.rules.specs.declared.Sent.{Sent}
 use Rattle.send_cut.specs.Plan.{Possible}
 use Rattle.send_cut.specs.declared.Piece.{Piece}
+
+-- the answer that a step comes to
+abbrev pub told : Result Sent Refusal → Sent
+told (Ok s) = s
+told (Err r) = record { refusal = number_of r; count = 0; length = 0 }
 
 -- the octets of the segment that a piece is of
 unfoldable pub octets_with : ℕ → Request → Piece → List ℕ → List ℕ → List ℕ → List ℕ

@@ -1,47 +1,45 @@
 // Sending: data cut into segments, one segment a call.
 #![tactic(auto)]
 
-ghost use Rattle.std.specs.Prelude.{if◌then◌else◌, ◌≡◌, ◌≤◌};
+ghost use Rattle.std.specs.Prelude.{if◌then◌else◌, ◌≡◌, ◌≤◌, Err};
+ghost use Rattle.refusals.specs.Numbers.{number_if};
 ghost use Rattle.rules.specs.Refusals.{first};
 ghost use Rattle.rules.specs.Promises.{OfSending};
 ghost use Rattle.rules.specs.Layout.{is_unsegmented};
 ghost use Rattle.send_cut.specs.Plan.{Possible};
 ghost use Rattle.rules.specs.Sending.{request_checks, heading_with};
-ghost use Rattle.sender.specs.Steps.{octets_with, Emitted, Ready};
+ghost use Rattle.sender.specs.Steps.{told, octets_with, Emitted, Ready};
 
+use refusals::Refusal;
 use rules::{Heading, Reference, Remaining, Request, Sent, Table};
-use send_cut::{Piece, Plan};
+use send_cut::Piece;
 
-// The number of the first check that applies to what is asked, rooms and area aside; 0 where none does.
-fn request_refusal(sound: bool, kind: u8, q: Request, o: usize, d: usize, n: usize) -> u8
-    ensures { result ≡ first (request_checks sound kind q o d n) }
+// Whether what is asked for passes its checks, rooms and area aside; else the first that does not.
+fn judge(sound: bool, kind: u8, q: Request, o: usize, d: usize, n: usize) -> Result<(), Refusal>
+    ensures { number_if result ≡ first (request_checks sound kind q o d n) }
 {
     if !sound {
-        return 1;
+        return Err(Refusal::Unsound);
     }
     if kind == 0 {
-        return 8;
+        return Err(Refusal::ContextUnknown);
     }
     if rules::DATA < n {
-        return 14;
+        return Err(Refusal::DataLong);
     }
-    if 20 < o {
-        return 9;
+    if rules::ADDRESS < o || rules::ADDRESS < d {
+        return Err(Refusal::AddressLong);
     }
-    if 20 < d {
-        return 9;
-    }
-    let extra = (kind == 1) & (0 < o + d);
-    if extra {
-        return 15;
+    if kind == 1 && 0 < o + d {
+        return Err(Refusal::AddressUnwanted);
     }
     if 3 < q.instruction {
-        return 17;
+        return Err(Refusal::InstructionLarge);
     }
     if 127 < q.reference.0 {
-        return 16;
+        return Err(Refusal::ReferenceLarge);
     }
-    0
+    Ok(())
 }
 
 // The reference that a segment repeats; an unsegmented parameter has none.
@@ -49,9 +47,10 @@ fn reference_for(q: Request, segmented: bool) -> Reference
     ensures { result.0 ≡ (if segmented then q.reference.0 else 255) }
 {
     if segmented {
-        return q.reference;
+        q.reference
+    } else {
+        Reference(255)
     }
-    Reference(255)
 }
 
 // The heading of the segment that a piece is of.
@@ -76,14 +75,10 @@ fn extra(g: Heading) -> usize
     ensures value { result ≡ (if is_unsegmented g.new g.remaining.0 then 0 else 1) }
     ensures upper_bound { result ≤ 1 }
 {
-    let alone = g.new & (g.remaining.0 == 0);
-    if alone {
-        return 0;
-    }
-    1
+    if g.new && g.remaining.0 == 0 { 0 } else { 1 }
 }
 
-// Writes the segment that a piece is of; 20 where the area is too short.
+// Writes the segment that a piece is of, where the area is long enough.
 fn emit(
     kind: u8,
     h: usize,
@@ -93,9 +88,9 @@ fn emit(
     destination: &[u8],
     whole: &[u8],
     area: &mut [u8],
-) -> Sent
+) -> Result<Sent, Refusal>
     requires { Ready kind q p h origin.now destination.now whole.now }
-    ensures { Emitted (octets_with kind q p origin.now destination.now whole.now) p.count area.old result area.new }
+    ensures { Emitted (octets_with kind q p origin.now destination.now whole.now) p.count area.old (told result) area.new }
 {
     let from = p.from;
     let size = p.size;
@@ -103,17 +98,46 @@ fn emit(
     let g = heading(kind, q, p);
     let total = h + extra(g) + information.len();
     if area.len() < total {
-        return Sent {
-            refusal: 20,
-            count: 0,
-            length: 0,
-        };
+        return Err(Refusal::AreaShort);
     }
     param_write::write(area, g, origin, destination, information);
-    Sent {
+    Ok(Sent {
         refusal: 0,
         count: p.count as u8,
         length: total as u16,
+    })
+}
+
+// One segment of the data, written; or the first refusal.
+fn segment(
+    t: &Table,
+    q: Request,
+    origin: &[u8],
+    destination: &[u8],
+    whole: &[u8],
+    area: &mut [u8],
+) -> Result<Sent, Refusal>
+    ensures { OfSending t.now q origin.now destination.now whole.now area.old (told result) area.new }
+{
+    let idle = sound::look_idle(*t);
+    let sound = sound::is_sound(*t, idle);
+    let registry = t.registry;
+    let context = q.context;
+    let kind = registry::kind_of(registry, context);
+    judge(sound, kind, q, origin.len(), destination.len(), whole.len())?;
+    let h = send_cut::header_length(kind, context, origin.len(), destination.len());
+    let p = send_cut::cut(h, q, whole.len())?;
+    emit(kind, h, q, p, origin, destination, whole, area)
+}
+
+// The answer to a call that is refused.
+fn refused(r: Refusal) -> Sent
+    ensures { result ≡ told (Err r) }
+{
+    Sent {
+        refusal: u8::from(r),
+        count: 0,
+        length: 0,
     }
 }
 
@@ -128,29 +152,5 @@ pub fn sending(
 ) -> Sent
     ensures { OfSending t q origin.now destination.now whole.now area.old result area.new }
 {
-    let idle = sound::look_idle(t);
-    let sound = sound::is_sound(t, idle);
-    let registry = t.registry;
-    let context = q.context;
-    let kind = registry::kind_of(registry, context);
-    let o = origin.len();
-    let d = destination.len();
-    let n = whole.len();
-    let refusal = request_refusal(sound, kind, q, o, d, n);
-    if refusal != 0 {
-        return Sent {
-            refusal,
-            count: 0,
-            length: 0,
-        };
-    }
-    let h = send_cut::header_length(kind, context, o, d);
-    match send_cut::cut(h, q, n) {
-        Plan::NoCut(number) => Sent {
-            refusal: number,
-            count: 0,
-            length: 0,
-        },
-        Plan::Cut(p) => emit(kind, h, q, p, origin, destination, whole, area),
-    }
+    segment(&t, q, origin, destination, whole, area).unwrap_or_else(refused)
 }

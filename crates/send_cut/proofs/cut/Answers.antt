@@ -1,12 +1,7 @@
-use mathlib.Core.Path.{◌∙◌}
-use borrow.Author.Tests.{le-ltb, le-leb, lt-leb}
+use Rattle.std.proofs.Common.{◌∙◌}
+use Rattle.std.proofs.lemmas.Bool.{le-ltb, lt-leb}
 use Rattle.send_cut.specs.Plan.{plan_of, segments_plan}
 use Rattle.send_cut.proofs.cut.Goals as goal
-
-pub returns-then-h-n-clause-value : goal.returns-then-h-n-clause-value
-unfolding plan_of
-returns-then-h-n-clause-value c =
-    simp (le-ltb _ _ c.if-q-gt255.false, le-ltb _ _ c.if-q-gt255-2.false, le-leb _ _ c.if-h-n.true, lt-leb _ _ c.if-q-ge1.false)
 
 pub returns-clause-value : goal.returns-clause-value
 unfolding plan_of segments_plan
