@@ -65,6 +65,26 @@ splice-copied xs ys zs n e h = go (leb (length ys) n) refl
     go true q = e ∙ rw (take_all n ys (leb-true (length ys) n q))
     go false q = let l : n < length ys = leb-false (length ys) n q in e ∙ splice-reach xs 0 n ys (omega arith)
 
+-- as many as reach are copied, and the rest of the area stays
+pub splice_front : (xs ys zs : List ℕ) (n : ℕ) → n ≡ min (length xs) (length ys) → zs ≡ take n ys → zs ++ drop n xs ≡ splice xs 0 ys
+splice_front xs ys zs n e q =
+    let m : length (take n ys) ≡ n = length-take-le n ys (omega arith) in
+    splice-copied xs ys (zs ++ drop n xs) n (rw (splice-is xs 0 (take n ys) (omega arith), q, m, zero-add) refl) (omega arith)
+
+-- from past the end on is from the end on
+pub splice_min : (xs : List ℕ) (at : ℕ) (ys : List ℕ) → splice xs (min at (length xs)) ys ≡ splice xs at ys
+splice_min xs at ys = go (leb at (length xs)) refl
+  where
+    go : (b : Bool) → leb at (length xs) ≡ b → splice xs (min at (length xs)) ys ≡ splice xs at ys
+    go true e =
+        let h : at ≤ length xs = leb-true at (length xs) e in
+        let m : min at (length xs) ≡ at = omega arith in
+        rw m
+    go false e =
+        let h : length xs < at = leb-false at (length xs) e in
+        let m : min at (length xs) ≡ length xs = omega arith in
+        rw m (splice-past xs (length xs) ys (omega arith) ∙ sym (splice-past xs at ys (omega arith)))
+
 -- what stands before the octets, and what stands after them, is as it was
 pub splice-before : (n : ℕ) (xs : List ℕ) (at : ℕ) (ys : List ℕ) → n ≤ at → take n (splice xs at ys) ≡ take n xs
 unfolding splice
@@ -141,6 +161,11 @@ splice-tail a xs ys zs q h =
     let s : splice (take a xs ++ drop a xs) (length (take a xs) + 0) ys ≡ take a xs ++ splice (drop a xs) 0 ys = splice-right (take a xs) (drop a xs) 0 ys in
     rw (q, take_all (length xs - a) (drop a xs) (omega arith), drop_of_length-le (drop a xs) {i = length xs - a} (omega arith), append-nil)
     (sym s ∙ rw (n, add-zero, take-append-drop a xs))
+
+-- the tail from a place or from the end on is lent, written and back
+pub splice_rest : (xs : List ℕ) (a at : ℕ) (ys zs : List ℕ) → a ≡ min at (length xs) → zs ≡ splice (mid_of a (length xs - a) xs) 0 ys
+    → put_mid a (length xs - a) xs zs ≡ splice xs at ys
+splice_rest xs a at ys zs e q = splice-tail a xs ys zs q (omega arith) ∙ rw e (splice_min xs at ys)
 
 -- one writer after another
 pub wrote_then : {a b c : List ℕ} {i j k : ℕ} {xs ys : List ℕ} → Wrote a i xs b j → Wrote b j ys c k → Wrote a i (xs ++ ys) c k
