@@ -22,7 +22,7 @@ pub fn numbers(m: &[u64; rules::SUMMARY]) -> usize
 // The row of an association. The mark is asked second: few rows have the name.
 pub fn row_of(m: &[u64; rules::SUMMARY], association: u16) -> Option<usize>
     ensures value { result ≡ row_of m.now association }
-    ensures by_index { (i : ℕ) → result ≡ At i → i < 64 }
+    ensures by_index { (i : ℕ) → result ≡ Some i → i < 64 }
 {
     let name = association as u64;
     let mut i = 0;
@@ -52,7 +52,7 @@ fn unused_row(m: &[u64; rules::SUMMARY]) -> Option<usize>
 // The row in which a segment of an association is taken.
 pub fn row_for(m: &[u64; rules::SUMMARY], association: u16) -> Option<usize>
     ensures value { result ≡ row_for m.now association }
-    ensures by_index { (i : ℕ) → result ≡ At i → i < 64 }
+    ensures by_index { (i : ℕ) → result ≡ Some i → i < 64 }
 {
     match row_of(m, association) {
         Some(i) => Some(i),

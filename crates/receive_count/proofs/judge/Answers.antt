@@ -6,12 +6,12 @@ use Rattle.receive_count.proofs.Counting.{last-number, room-is}
 use Rattle.receive_count.proofs.judge.Goals as goal
 
 pub has_room-requires : goal.has_room-requires
-has_room-requires c = c.row_for.ensures.by_index _ c.in-At.is
+has_room-requires c = c.row_for.ensures.by_index _ c.in-Some.is
 
 pub returns-then-has_room : goal.returns-then-has_room
 returns-then-has_room c =
     let a = c.args in
-    let for = sym c.row_for.ensures.value ∙ c.in-At.is in
+    let for = sym c.row_for.ensures.value ∙ c.in-Some.is in
     let room = sym c.has_room.ensures ∙ c.if-has_room.true in
     let long = c.numbers.ensures.1 in
     record {
@@ -20,10 +20,10 @@ returns-then-has_room c =
       room = λ e. room;
     }
 
-pub returns-in-Nothing : goal.returns-in-Nothing
-returns-in-Nothing c =
+pub returns-in-None : goal.returns-in-None
+returns-in-None c =
     let a = c.args in
-    let for = sym c.row_for.ensures.value ∙ c.in-Nothing.is in
+    let for = sym c.row_for.ensures.value ∙ c.in-None.is in
     record {
       number = λ key own. sym (last-number a.m.now _ a.association None _ for refl);
       row = λ e. absurd (omega arith);
@@ -33,7 +33,7 @@ returns-in-Nothing c =
 pub returns-else-has_room : goal.returns-else-has_room
 returns-else-has_room c =
     let a = c.args in
-    let for = sym c.row_for.ensures.value ∙ c.in-At.is in
+    let for = sym c.row_for.ensures.value ∙ c.in-Some.is in
     let long = c.numbers.ensures.1 in
     record {
       number = λ key own. sym (last-number a.m.now _ a.association (Some _) false for (room-is a.m.now long a.association a.n _ for a.v key own ∙ (sym c.has_room.ensures ∙ c.if-has_room.false)));

@@ -4,14 +4,14 @@ use Rattle.summary.proofs.bill_loss.Goals as goal
 
 pub lose_in-requires : goal.lose_in-requires
 lose_in-requires c =
-    c.row_of.ensures.by_index _ c.in-At.is
+    c.row_of.ensures.by_index _ c.in-Some.is
 
-pub returns-in-At : goal.returns-in-At
-returns-in-At c =
-    let found = sym c.row_of.ensures.value ∙ c.in-At.is in
+pub returns-in-Some : goal.returns-in-Some
+returns-in-Some c =
+    let found = sym c.row_of.ensures.value ∙ c.in-Some.is in
     record { value = rw found c.lose_in.ensures.value; m_after = rw found c.lose_in.ensures.m_after }
 
-pub returns-in-Nothing : goal.returns-in-Nothing
-returns-in-Nothing c =
-    let none = sym c.row_of.ensures.value ∙ c.in-Nothing.is in
+pub returns-in-None : goal.returns-in-None
+returns-in-None c =
+    let none = sym c.row_of.ensures.value ∙ c.in-None.is in
     record { value = rw none (sym (fits-same c.args.m.now)); m_after = rw none }
