@@ -1,8 +1,8 @@
 -- A field of two octets is what its octets say, one after the other.
-use Rattle.std.specs.Prelude.{if◌then◌else◌}
+use Rattle.std.specs.Prelude.{if◌then◌else◌, Result, Ok, Err}
 use Prim.Native.Nat.{ℕ, ◌+◌, ◌*◌, ◌%◌, ◌≤◌, ◌<◌}
 use mathlib.Core.Path.{◌≡◌, refl, sym, ap, ◌∙◌}
-use mathlib.Core.Bool.{Bool, true, false, not}
+use mathlib.Core.Bool.{Bool, true, false, not, beq, true≢false}
 use native.Mathlib.Omega.{arith}
 use borrow.Author.Tests.{lt-ltb, le-ltb}
 use mathlib.Core.List.{List, [], ◌∷◌, ◌++◌}
@@ -15,14 +15,8 @@ use Rattle.rules.proofs.Refusals.{fault_in, fault-append, fault-then}
 use Rattle.rules.specs.declared.Context.{Context}
 use Rattle.rules.specs.declared.Entry.{Entry}
 use Rattle.rules.specs.declared.Fault.{Fault}
-use Rattle.param_fields.specs.Fields.{last_field, known_field, context_field, sequence_field}
+use Rattle.param_fields.specs.Fields.{octet_field, last_field, known_field, context_field, sequence_field}
 use Rattle.param_fields.specs.declared.Sequence.{Sequence}
-use Rattle.param_fields.specs.declared.LastField.{LastField}
-use Rattle.param_fields.specs.declared.LastField.TheVariants.{LastIs, NotLast}
-use Rattle.param_fields.specs.declared.ContextField.{ContextField}
-use Rattle.param_fields.specs.declared.ContextField.TheVariants.{ContextIs, NoContext}
-use Rattle.param_fields.specs.declared.SequenceField.{SequenceField}
-use Rattle.param_fields.specs.declared.SequenceField.TheVariants.{SequenceIs, NoSequence}
 
 -- an octet that is not there, or is: the code compares its position
 pub cut : (n at : ℕ) → n ≤ at → ltb n (at + 1) ≡ true
@@ -31,10 +25,31 @@ cut n at h = lt-ltb n (at + 1) (omega (arith, h))
 pub uncut : (n at : ℕ) → at < n → ltb n (at + 1) ≡ false
 uncut n at h = le-ltb n (at + 1) (omega (arith, h))
 
+-- what an octet that is there says of the parameter
+pub octet-there : (s : List ℕ) (at x : ℕ) → octet_field s at ≡ Ok x → (ltb (length s) (at + 1) ≡ false) × (octet s at ≡ x)
+octet-there s at x e = go (ltb (length s) (at + 1)) refl
+  where
+    go : (b : Bool) → ltb (length s) (at + 1) ≡ b → (ltb (length s) (at + 1) ≡ false) × (octet s at ≡ x)
+    go true h = let z = simp h at e in cc
+    go false h = (h, let z = simp h at e in cc)
+
+-- a test that is another one, or is not
+pub unlike : (a b : Bool) → not (beq a b) ≡ true → a ≡ not b
+unlike true false e = refl
+unlike false true e = refl
+unlike true true e = absurd (true≢false (sym e))
+unlike false false e = absurd (true≢false (sym e))
+
+pub alike : (a b : Bool) → not (beq a b) ≡ false → a ≡ b
+alike true true e = refl
+alike false false e = refl
+alike true false e = absurd (true≢false e)
+alike false true e = absurd (true≢false e)
+
 -- octet 1a after octet 1
-abbrev pub after1a : List Entry → ℕ → LastField → ContextField
-after1a registry x (NotLast e) = NoContext e
-after1a registry x (LastIs y next) = known_field registry (record { 0 = x % 128 + 128 * (y % 128) }) (eqb (y % 128) 0) 1
+abbrev pub after1a : List Entry → ℕ → Result (ℕ × ℕ) Fault → Result (Context × ℕ × ℕ) Fault
+after1a registry x (Err e) = Err e
+after1a registry x (Ok (y, next)) = known_field registry (record { 0 = x % 128 + 128 * (y % 128) }) (eqb (y % 128) 0) 1
 
 -- one check alone
 judged-one : {A : Type 0} (c : Check) (f : Fault → A) (a : A) → judged_at (c ∷ []) f a ≡ (if c.applies then f (fault_in c) else a)
@@ -55,23 +70,39 @@ eight registry x last = 8 when eqb (kind_of registry x) 0 blaming last
 module _ (registry : List Entry) (s : List ℕ) (there : ltb (length s) 1 ≡ false) where
   pub context-one : leb 128 (octet s 0) ≡ true → context_field registry s ≡ known_field registry (record { 0 = octet s 0 % 128 }) false 0
   unfolding context_field
-  context-one e = simp (there, e) (judged-one (eight registry (octet s 0 % 128) 0) NoContext _)
+  context-one e = simp (there, e) (judged-one (eight registry (octet s 0 % 128) 0) Err _)
 
   pub context-two : leb 128 (octet s 0) ≡ false → context_field registry s ≡ after1a registry (octet s 0) (last_field s 1)
   unfolding context_field last_field
   context-two e =
       let x : Context = record { 0 = octet s 0 % 128 + 128 * (octet s 1 % 128) } in
       simp (there, e)
-      (judged-last (second_checks s) (eight registry x.0 1) NoContext (ContextIs x (kind_of registry x.0) 2)
-      ∙ judged-last (last_checks s 1) (23 when is_padded s blaming 1) NoContext (known_field registry x false 1)
-      ∙ sym (fault-then (after1a registry (octet s 0)) (last_checks s 1) NotLast (LastIs (octet s 1) 2)))
+      (judged-last (second_checks s) (eight registry x.0 1) Err (Ok (x, kind_of registry x.0, 2))
+      ∙ judged-last (last_checks s 1) (23 when is_padded s blaming 1) Err (known_field registry x false 1)
+      ∙ sym (fault-then (after1a registry (octet s 0)) (last_checks s 1) Err (Ok (octet s 1, 2))))
 
 -- octet 3a, at + 1, after octet 3
-abbrev pub after3a : ℕ → ℕ → LastField → SequenceField
-after3a at x (NotLast e) = NoSequence e
-after3a at x (LastIs y next) =
-    if is_unsegmented (is_new x) (remaining_of x) then NoSequence (record { number = 7; position = at }) else
-    SequenceIs (record { new = is_new x; remaining = record { 0 = remaining_of x }; reference = record { 0 = y % 128 } }) next
+abbrev pub after3a : ℕ → ℕ → Result (ℕ × ℕ) Fault → Result (Sequence × ℕ) Fault
+after3a at x (Err e) = Err e
+after3a at x (Ok (y, next)) =
+    if is_unsegmented (is_new x) (remaining_of x) then Err (record { number = 7; position = at }) else
+    Ok (record { new = is_new x; remaining = record { 0 = remaining_of x }; reference = record { 0 = y % 128 } }, next)
+
+-- with octet 3 alone, 7 is for one that should have 3a
+abbrev pub alone3 : ℕ → ℕ → Result (Sequence × ℕ) Fault
+alone3 at x =
+    if is_unsegmented (is_new x) (remaining_of x)
+    then Ok (record { new = is_new x; remaining = record { 0 = remaining_of x }; reference = record { 0 = 255 } }, at + 1)
+    else Err (record { number = 7; position = at })
+
+like-one : (b : Bool) → not (eqb 0 (count3a (not b))) ≡ not b
+like-one true = refl
+like-one false = refl
+
+-- the same by the other test
+alone-not : {A : Type 0} (b : Bool) (x y : A) → (if not b then x else y) ≡ (if b then y else x)
+alone-not true x y = refl
+alone-not false x y = refl
 
 -- with 3a there, 7 is for one that should not be
 unlike-one : (b : Bool) → not (eqb 1 (count3a (not b))) ≡ b
@@ -79,6 +110,14 @@ unlike-one true = refl
 unlike-one false = refl
 
 module _ (s : List ℕ) (at : ℕ) (there : ltb (length s) (at + 1) ≡ false) where
+  pub sequence-one : leb 128 (octet s at) ≡ true → sequence_field s at ≡ alone3 at (octet s at)
+  unfolding sequence_field
+  sequence-one e =
+      let x : ℕ = octet s at in
+      simp (there, e, like-one)
+      (judged-one (7 when not (is_unsegmented (is_new x) (remaining_of x)) blaming at) Err _
+      ∙ alone-not (is_unsegmented (is_new x) (remaining_of x)) _ _)
+
   pub sequence-two : leb 128 (octet s at) ≡ false → sequence_field s at ≡ after3a at (octet s at) (last_field s (at + 1))
   unfolding sequence_field last_field
   sequence-two e =
@@ -86,5 +125,5 @@ module _ (s : List ℕ) (at : ℕ) (there : ltb (length s) (at + 1) ≡ false) w
       let past : at + 2 ≡ at + 1 + 1 = omega arith in
       let q : Sequence = record { new = is_new x; remaining = record { 0 = remaining_of x }; reference = record { 0 = octet s (at + 1) % 128 } } in
       simp (there, e, unlike-one, past)
-      (judged-last (last_checks s (at + 1)) (7 when is_unsegmented (is_new x) (remaining_of x) blaming at) NoSequence (SequenceIs q (at + 1 + 1))
-      ∙ sym (fault-then (after3a at x) (last_checks s (at + 1)) NotLast (LastIs (octet s (at + 1)) (at + 1 + 1))))
+      (judged-last (last_checks s (at + 1)) (7 when is_unsegmented (is_new x) (remaining_of x) blaming at) Err (Ok (q, at + 1 + 1))
+      ∙ sym (fault-then (after3a at x) (last_checks s (at + 1)) Err (Ok (octet s (at + 1), at + 1 + 1))))

@@ -1,4 +1,5 @@
 -- What a reading says of the parameter.
+use Rattle.std.specs.Prelude.{Result, Ok, Err}
 use Prim.Native.Nat.{ℕ, ◌≤◌}
 use mathlib.Core.Path.{◌≡◌, refl, sym, ap}
 use mathlib.Core.Bool.{Bool, true, false}
@@ -12,8 +13,6 @@ use Rattle.rules.proofs.Refusals.{first-each}
 use Rattle.rules.proofs.Least.{reading-least}
 use Rattle.rules.proofs.Reading.{parameter-short, origin-short, destination-short}
 use Rattle.param_read.specs.Reading.{reading}
-use Rattle.param_read.specs.declared.Reading.{Reading}
-use Rattle.param_read.specs.declared.Reading.TheVariants.{Read, Refused}
 use Rattle.rules.specs.declared.Entry.{Entry}
 use Rattle.rules.specs.declared.Table.{Table}
 use Rattle.rules.specs.declared.Fault.{Fault}
@@ -25,7 +24,7 @@ pub record Short (s : List ℕ) (f : Fields) : Type 0 where
   pub origin : f.origin.length ≤ address_most
   pub destination : f.destination.length ≤ address_most
 
-pub read_short : (t : Table) (s : List ℕ) (f : Fields) → reading t.registry s ≡ Read f → Short s f
+pub read_short : (t : Table) (s : List ℕ) (f : Fields) → reading t.registry s ≡ Ok f → Short s f
 unfolding reading
 read_short t s f e = go (accepted (reading_checks t.registry s)) refl
   where
@@ -40,14 +39,14 @@ read_short t s f e = go (accepted (reading_checks t.registry s)) refl
     go false a = let z : ◌≡◌ {A = ℕ} 0 1 = let other = simp a at e in cc in absurd (let y : ⊥ = omega arith in y)
 
 -- readings that are one have the same fields
-pub read_same : (f g : Fields) → ◌≡◌ {A = Reading} (Read f) (Read g) → f ≡ g
+pub read_same : (f g : Fields) → ◌≡◌ {A = Result Fields Fault} (Ok f) (Ok g) → f ≡ g
 read_same f g e = cc
 
-pub refused-read : (x : Fault) (f : Fields) → ◌≡◌ {A = Reading} (Refused x) (Read f) → ⊥
+pub refused-read : (x : Fault) (f : Fields) → ◌≡◌ {A = Result Fields Fault} (Err x) (Ok f) → ⊥
 refused-read x f e = let z : ◌≡◌ {A = ℕ} 0 1 = cc in (let y : ⊥ = omega arith in y)
 
 -- what is read are the fields; what is not has a number
-pub read-fields : (registry : List Entry) (s : List ℕ) (f : Fields) → reading registry s ≡ Read f → fields_of registry s ≡ f
+pub read-fields : (registry : List Entry) (s : List ℕ) (f : Fields) → reading registry s ≡ Ok f → fields_of registry s ≡ f
 unfolding reading
 read-fields registry s f e = go (accepted (reading_checks registry s)) refl
   where
@@ -55,7 +54,7 @@ read-fields registry s f e = go (accepted (reading_checks registry s)) refl
     go true a = let same = simp a at e in cc
     go false a = absurd (refused-read _ f (simp a at e))
 
-pub read_number : (registry : List Entry) (s : List ℕ) (x : Fault) → reading registry s ≡ Refused x → x.number ≡ 0 → ⊥
+pub read_number : (registry : List Entry) (s : List ℕ) (x : Fault) → reading registry s ≡ Err x → x.number ≡ 0 → ⊥
 unfolding reading
 read_number registry s x e z = go (accepted (reading_checks registry s)) refl
   where

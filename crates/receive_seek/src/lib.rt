@@ -9,14 +9,13 @@ ghost use Rattle.param_read.specs.Reading.{reading};
 ghost use Rattle.table.specs.Seeking.{Points};
 ghost use Rattle.receive_seek.specs.Seeking.{Seeks};
 
-use param_read::Reading;
-use rules::{Address, Fields, Key, Place, Span, Table};
+use rules::{Address, Fault, Fields, Key, Place, Span, Table};
 use table::Search;
 
 // A parameter's reading, its key, and the place that it is about.
 #[derive(Clone, Copy)]
 pub struct Sought {
-    pub reading: Reading,
+    pub reading: Result<Fields, Fault>,
     pub key: Key,
     pub search: Search,
 }
@@ -56,7 +55,7 @@ fn key_of(association: u16, s: &[u8], f: Fields) -> Key
 }
 
 // A parameter that touches no place.
-fn nowhere(reading: Reading, key: Key) -> Sought
+fn nowhere(reading: Result<Fields, Fault>, key: Key) -> Sought
     ensures { result ≡ record { reading = reading; key = key; search = record { at = 0; found = false; vacant = false } } }
 {
     let search = Search {
@@ -72,7 +71,7 @@ fn nowhere(reading: Reading, key: Key) -> Sought
 }
 
 // A parameter that was read, with the place that it is about.
-fn placed(places: [Place; 16], reading: Reading, key: Key) -> Sought
+fn placed(places: [Place; 16], reading: Result<Fields, Fault>, key: Key) -> Sought
     ensures { (result.reading ≡ reading) × (Points (place_of key places) (lowest_free places) result.search × (result.key ≡ key)) }
 {
     let search = table::search_for(places, key);
@@ -86,17 +85,17 @@ fn placed(places: [Place; 16], reading: Reading, key: Key) -> Sought
 // Reads a parameter, and seeks the place that it is about. An unsegmented one touches no place.
 pub fn seek(t: Table, association: u16, s: &[u8]) -> Sought
     ensures reading_value { (result.reading ≡ reading t.registry s.now) × (result.search.at < place_count) }
-    ensures seeks { (f : Fields) → result.reading ≡ Reading.Read f → Seeks t (key_of association s.now f) f.heading result }
+    ensures seeks { (f : Fields) → result.reading ≡ Ok f → Seeks t (key_of association s.now f) f.heading result }
 {
     let registry = t.registry;
     let reading = param_read::read(registry, s);
     match reading {
-        Reading::Refused(_) => {
+        Err(_) => {
             let free = table::free_place();
             let key = free.key;
             nowhere(reading, key)
         }
-        Reading::Read(f) => {
+        Ok(f) => {
             let key = key_of(association, s, f);
             let alone = f.heading.new & (f.heading.remaining.0 == 0);
             if alone {

@@ -1,5 +1,5 @@
 -- The steps of the segment call, one after the other, are its rule.
-use Rattle.std.specs.Prelude.{Option, Some}
+use Rattle.std.specs.Prelude.{Option, Some, Result, Ok, Err}
 use Prim.Native.Nat.{ℕ, zero, suc}
 use mathlib.Core.Path.{◌≡◌, refl, sym, ap, ◌∙◌}
 use mathlib.Core.Bool.{Bool, true, false, not, ◌&&◌, and-eq-true_iff, true≢false}
@@ -17,8 +17,6 @@ use Rattle.rules.proofs.Soundness.{open-parts, free-holds}
 use Rattle.rules.specs.Receiving.{key_of, information_of, line_of, line_at, is_start, effect_of, Reception, reception_of, lent_checks, taking_checks, segment_checks, segment, unreceived}
 use Rattle.rules.proofs.Refusals.{fault-append, fault-then}
 use Rattle.param_read.specs.Reading.{reading}
-use Rattle.param_read.specs.declared.Reading.{Reading}
-use Rattle.param_read.specs.declared.Reading.TheVariants.{Read, Refused}
 use Rattle.rules.specs.declared.Key.{Key}
 use Rattle.rules.specs.declared.Place.{Place}
 use Rattle.rules.specs.declared.Table.{Table}
@@ -189,9 +187,9 @@ fit t i s =
     go p ok false o = let z = free-holds t.registry t.timer t.clock p ok o in record { octets = omega (arith, z.0); segments = omega (arith, z.1) }
 
 -- after the first checks, reading; after reading, the arrival
-abbrev pub after_reading : Table → List ℕ → List ℕ → ℕ → List ℕ → Reading → Reception
-after_reading t store report association s (Refused x) = unreceived t store report x
-after_reading t store report association s (Read f) = arrival t store report (key_of association s f) f (information_of s f)
+abbrev pub after_reading : Table → List ℕ → List ℕ → ℕ → List ℕ → Result Fields Fault → Reception
+after_reading t store report association s (Err x) = unreceived t store report x
+after_reading t store report association s (Ok f) = arrival t store report (key_of association s f) f (information_of s f)
 
 pub segment-is : (t : Table) (store report : List ℕ) (association : ℕ) (s : List ℕ) (n m : ℕ) → length store ≡ n → length report ≡ m → segment t store report association s
     ≡ judged_at (lent_checks record_length (sound t) n m) (unreceived t store report) (after_reading t store report association s (reading t.registry s))
@@ -204,5 +202,5 @@ segment-is t store report association s n m a b =
     let reads : List Check = reading_checks t.registry s in
     let full : List Check = taking_checks line t.places in
     fault-append areas (reads ++ full) (unreceived t store report) _
-    ∙ ap (λ (r : Reception). judged_at areas (unreceived t store report) r) (fault-append reads full (unreceived t store report) _ ∙ sym (fault-then (after_reading t store report association s) reads Refused (Read f)))
+    ∙ ap (λ (r : Reception). judged_at areas (unreceived t store report) r) (fault-append reads full (unreceived t store report) _ ∙ sym (fault-then (after_reading t store report association s) reads Err (Ok f)))
     ∙ rw (a, b)

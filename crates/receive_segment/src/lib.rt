@@ -14,7 +14,6 @@ ghost use Rattle.receive_seek.specs.Seeking.{Seeks};
 ghost use Rattle.rules.specs.Summary.{summary_sound};
 ghost use Rattle.receive_segment.specs.Arrival.{arrival, OfVerdict, OfWeighing, OfSegment, blamed_by};
 
-use param_read::Reading;
 use receive_carry::Judged;
 use receive_count::Count;
 use receive_perform::Verdict;
@@ -70,7 +69,7 @@ fn judge(
     held: Place,
 ) -> Verdict
     requires is_sound_value { is_sound ≡ sound t }
-    requires reading_value { (q.reading ≡ reading t.registry s.now) × ((f : Fields) → q.reading ≡ Reading.Read f → Seeks t (key_of association s.now f) f.heading q) }
+    requires reading_value { (q.reading ≡ reading t.registry s.now) × ((f : Fields) → q.reading ≡ Ok f → Seeks t (key_of association s.now f) f.heading q) }
     requires at_lt_place_count { (q.search.at < place_count) × (held ≡ get_or t.places q.search.at no_place) }
     ensures { OfVerdict t store report association s.now q.search.at q.key result }
 {
@@ -85,8 +84,8 @@ fn judge(
     }
     let reading = q.reading;
     match reading {
-        Reading::Refused(fault) => refused(fault.number, fault.position, held),
-        Reading::Read(f) => arrive(t, s, f, q, held),
+        Err(fault) => refused(fault.number, fault.position, held),
+        Ok(f) => arrive(t, s, f, q, held),
     }
 }
 

@@ -32,30 +32,30 @@ returns-then-report-lt-RECORD c =
 
 pub arrive-requires : goal.arrive-requires
 arrive-requires c =
-    let w = read_short c.args.t c.args.s.now _ (sym c.requires.reading_value.0 ∙ c.in-Read.is) in
-    let q = c.requires.reading_value.1 _ c.in-Read.is in
+    let w = read_short c.args.t c.args.s.now _ (sym c.requires.reading_value.0 ∙ c.in-Ok.is) in
+    let q = c.requires.reading_value.1 _ c.in-Ok.is in
     record { t_value = (sym c.requires.is_sound_value ∙ c.if-not-is_sound.false, (w.parameter, record { key-is = refl; points = rw (← q.key-is) at q.points })); at_lt_place_count = c.requires.at_lt_place_count }
 
-pub returns-in-Refused : goal.returns-in-Refused
-returns-in-Refused c =
+pub returns-in-Err : goal.returns-in-Err
+returns-in-Err c =
     let a = c.args in
-    refused-verdict a.t a.q.search.at c.in-Refused.fault a.q.key a.held _ c.requires.at_lt_place_count.1 c.refused-in-Refused.ensures a.store a.report a.association a.s.now (read_number a.t.registry a.s.now _ (sym c.requires.reading_value.0 ∙ c.in-Refused.is))
-    (λ st rp g h. segment-is a.t st rp a.association a.s.now _ _ g h ∙ simp (sym c.requires.is_sound_value ∙ c.if-not-is_sound.false, le-ltb _ _ c.if-store-lt-STORE.false, le-ltb a.report record_length (omega arith), sym c.requires.reading_value.0 ∙ c.in-Refused.is))
+    refused-verdict a.t a.q.search.at c.in-Err.fault a.q.key a.held _ c.requires.at_lt_place_count.1 c.refused-in-Err.ensures a.store a.report a.association a.s.now (read_number a.t.registry a.s.now _ (sym c.requires.reading_value.0 ∙ c.in-Err.is))
+    (λ st rp g h. segment-is a.t st rp a.association a.s.now _ _ g h ∙ simp (sym c.requires.is_sound_value ∙ c.if-not-is_sound.false, le-ltb _ _ c.if-store-lt-STORE.false, le-ltb a.report record_length (omega arith), sym c.requires.reading_value.0 ∙ c.in-Err.is))
 
-pub returns-in-Read : goal.returns-in-Read
-returns-in-Read c =
+pub returns-in-Ok : goal.returns-in-Ok
+returns-in-Ok c =
     let a = c.args in
-    let f = c.in-Read.f in
-    let q = c.requires.reading_value.1 f c.in-Read.is in
+    let f = c.in-Ok.f in
+    let q = c.requires.reading_value.1 f c.in-Ok.is in
     record {
       leads = λ st rp g h.
           leads-as
           (ap (λ (k : Key). arrival a.t st rp k f (information_of a.s.now f)) q.key-is
-          ∙ sym (segment-is a.t st rp a.association a.s.now _ _ g h ∙ simp (sym c.requires.is_sound_value ∙ c.if-not-is_sound.false, le-ltb _ _ c.if-store-lt-STORE.false, le-ltb a.report record_length (omega arith), sym c.requires.reading_value.0 ∙ c.in-Read.is)))
+          ∙ sym (segment-is a.t st rp a.association a.s.now _ _ g h ∙ simp (sym c.requires.is_sound_value ∙ c.if-not-is_sound.false, le-ltb _ _ c.if-store-lt-STORE.false, le-ltb a.report record_length (omega arith), sym c.requires.reading_value.0 ∙ c.in-Ok.is)))
           (c.arrive.ensures.by_index st rp);
       fits = c.arrive.ensures.by_index_2 _ c.if-store-lt-STORE.false;
       taken = λ z.
           ap (λ (k : ℕ). drop k a.s.now) (c.arrive.ensures.information_value z)
-          ∙ ap (information_of a.s.now) (sym (read-fields a.t.registry a.s.now f (sym c.requires.reading_value.0 ∙ c.in-Read.is)));
+          ∙ ap (information_of a.s.now) (sym (read-fields a.t.registry a.s.now f (sym c.requires.reading_value.0 ∙ c.in-Ok.is)));
       own = λ z. ap (λ (k : Key). k.association) q.key-is;
     }
