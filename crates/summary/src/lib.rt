@@ -1,22 +1,15 @@
 // A summary, which its caller lends: 64 rows of 8 numbers, column by column. The marks are at 0 + i, as the rules have it: a sum does not compute away in a proof.
 #![tactic(auto)]
 
-ghost use Rattle.std.specs.Prelude.{if◌then◌else◌, ◌≡◌, true, ◌&&◌, ℕ, ◌+◌, ◌<◌, length};
+ghost use Rattle.std.specs.Prelude.{if◌then◌else◌, ◌≡◌, true, ◌&&◌, ℕ, ◌+◌, ◌<◌, length, Some};
 ghost use Rattle.rules.specs.Summary.{number_at, row_of, unused_row, row_for, tally, seat, total_fits, fits, empty_summary};
 ghost use Rattle.summary.specs.Losses.{loss_in};
 
-
-fn count(s: &[u64]) -> usize
-    ensures { result ≡ length s.now }
-{
-    s.len()
-}
-
-// How many numbers there are: for proofs, which learn the length of a lent array only where it is lent on as a slice.
+// How many numbers there are.
 pub fn numbers(m: &[u64; rules::SUMMARY]) -> usize
     ensures { (result ≡ 512) × (length m.now ≡ 512) }
 {
-    count(m)
+    m.len()
 }
 
 // The row of an association. The mark is asked second: few rows have the name.
@@ -24,13 +17,11 @@ pub fn row_of(m: &[u64; rules::SUMMARY], association: u16) -> Option<usize>
     ensures value { result ≡ row_of m.now association }
     ensures by_index { (i : ℕ) → result ≡ Some i → i < 64 }
 {
-    let name = association as u64;
-    let mut i = 0;
-    while i < 64 {
+    let name = u64::from(association);
+    for i in 0..rules::ROWS {
         if (m[64 + i] == name) & (m[0 + i] == 1) {
             return Some(i);
         }
-        i += 1;
     }
     None
 }
@@ -39,12 +30,10 @@ pub fn row_of(m: &[u64; rules::SUMMARY], association: u16) -> Option<usize>
 fn unused_row(m: &[u64; rules::SUMMARY]) -> Option<usize>
     ensures { result ≡ unused_row m.now }
 {
-    let mut row = 0;
-    while row < 64 {
+    for row in 0..rules::ROWS {
         if m[0 + row] == 0 {
             return Some(row);
         }
-        row += 1;
     }
     None
 }
@@ -54,23 +43,15 @@ pub fn row_for(m: &[u64; rules::SUMMARY], association: u16) -> Option<usize>
     ensures value { result ≡ row_for m.now association }
     ensures by_index { (i : ℕ) → result ≡ Some i → i < 64 }
 {
-    match row_of(m, association) {
-        Some(i) => Some(i),
-        None => unused_row(m),
-    }
+    row_of(m, association).or_else(|| unused_row(m))
 }
 
-// Whether a total may have so much added. A sum is never made: it might not fit 64 bits.
+// Whether a total may have so much added.
 fn may_grow(number: u64, added: u64) -> bool
     ensures { result ≡ total_fits number (number + added) }
 {
-    if added == 0 {
-        return true;
-    }
-    if rules::TOTAL < added {
-        return false;
-    }
-    number <= rules::TOTAL - added
+    let sum = number.checked_add(added);
+    added == 0 || sum.is_some_and(|n| n <= rules::TOTAL)
 }
 
 // Whether so many segments and octets more fit, in a column and the next.
@@ -113,7 +94,7 @@ pub fn seat(m: &mut [u64; rules::SUMMARY], row: usize, association: u16)
     ensures { m.new ≡ seat m.old row association }
 {
     m[0 + row] = 1;
-    m[64 + row] = association as u64;
+    m[64 + row] = u64::from(association);
 }
 
 // A loss in a row, unless a total would become too large.
@@ -122,12 +103,11 @@ fn lose_in(m: &mut [u64; rules::SUMMARY], row: usize, segments: u64, octets: u64
     ensures value { result ≡ fits m.old (tally m.old 6 row segments octets) }
     ensures m_after { m.new ≡ (if result then tally m.old 6 row segments octets else m.old) }
 {
-    numbers(m);
-    if !has_room(m, 6, row, segments, octets) {
-        return false;
+    let fits = has_room(m, 6, row, segments, octets);
+    if fits {
+        add(m, 6, row, segments, octets);
     }
-    add(m, 6, row, segments, octets);
-    true
+    fits
 }
 
 // A loss is billed to an association, unless a total would become too large.

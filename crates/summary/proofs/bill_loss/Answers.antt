@@ -1,10 +1,6 @@
-use mathlib.Core.Path.{sym, ◌∙◌}
+use Rattle.std.proofs.Common.{sym, ◌∙◌}
 use Rattle.rules.proofs.Fitting.{fits-same}
 use Rattle.summary.proofs.bill_loss.Goals as goal
-
-pub lose_in-requires : goal.lose_in-requires
-lose_in-requires c =
-    c.row_of.ensures.by_index _ c.in-Some.is
 
 pub returns-in-Some : goal.returns-in-Some
 returns-in-Some c =

@@ -1,4 +1,4 @@
-use mathlib.Core.Path.{refl}
+use Rattle.std.proofs.Common.{refl}
 use Rattle.rules.specs.Summary.{empty_summary}
 use Rattle.summary.proofs.empty.Goals as goal
 

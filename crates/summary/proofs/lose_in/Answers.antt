@@ -1,20 +1,17 @@
-use mathlib.Core.Path.{refl, sym, ◌∙◌}
-use native.Mathlib.Omega.{arith}
+use Rattle.std.proofs.Common.{◌≡◌, sym, ◌∙◌, arith}
+use Rattle.rules.specs.Summary.{fits, tally}
 use Rattle.rules.proofs.Fitting.{fits-tally}
 use Rattle.summary.proofs.lose_in.Goals as goal
+use Rattle.summary.proofs.lose_in.Goals.{After-has_room-fits}
 
-pub returns-then-not-has_room : goal.returns-then-not-has_room
-returns-then-not-has_room c =
+-- what is asked before a sum is made is what the rules ask of it
+asked : (c : After-has_room-fits) → c.has_room-fits.result ≡ fits c.args.m.now (tally c.args.m.now 6 c.args.row c.args.segments c.args.octets)
+asked c =
     let a = c.args in
-    let fit = fits-tally a.m.now 6 a.row a.segments a.octets c.numbers.ensures.1 (omega arith) c.requires (omega arith) in
-    record { value = sym (fit ∙ sym c.has_room.ensures ∙ c.if-not-has_room.true); m_after = refl }
+    c.has_room-fits.ensures ∙ sym (fits-tally a.m.now 6 a.row a.segments a.octets c.told-m (omega arith) c.requires (omega arith))
 
-pub add-requires : goal.add-requires
-add-requires c =
-    record { column_bound = (omega arith, c.requires); octets_value = sym c.has_room.ensures ∙ c.if-not-has_room.false }
+pub returns-then-fits-clause-value : goal.returns-then-fits-clause-value
+returns-then-fits-clause-value c = asked (goal.at.returns-then-fits-clause-value c).After-has_room-fits
 
-pub returns : goal.returns
-returns c =
-    let a = c.args in
-    let fit = fits-tally a.m.now 6 a.row a.segments a.octets c.numbers.ensures.1 (omega arith) c.requires (omega arith) in
-    record { value = sym (fit ∙ sym c.has_room.ensures ∙ c.if-not-has_room.false); m_after = c.add.ensures }
+pub returns-else-fits-clause-value : goal.returns-else-fits-clause-value
+returns-else-fits-clause-value c = asked (goal.at.returns-else-fits-clause-value c).After-has_room-fits
