@@ -16,18 +16,14 @@ pub fn line_of(is_open: bool, before: Remaining, saved: u16, g: Heading, n: usiz
     ensures tells { Tells is_open saved n result }
 {
     let left = g.remaining.0;
-    let alone = g.new & (left == 0);
-    if alone {
+    if g.new && left == 0 {
         return Line::Unsegmented;
     }
     if 9 < left {
         return Line::Broken(4);
     }
     if g.new {
-        if is_open {
-            return Line::Restart;
-        }
-        return Line::Start;
+        return if is_open { Line::Restart } else { Line::Start };
     }
     if !is_open {
         return Line::Broken(1);
@@ -35,25 +31,15 @@ pub fn line_of(is_open: bool, before: Remaining, saved: u16, g: Heading, n: usiz
     if left + 1 != before.0 {
         return Line::Broken(2);
     }
-    if rules::DATA < (saved as usize) + n {
+    if rules::DATA < usize::from(saved) + n {
         return Line::Broken(5);
     }
-    if left == 0 {
-        return Line::Final;
-    }
-    Line::Next
+    if left == 0 { Line::Final } else { Line::Next }
 }
 
 // Whether a line needs a place for a new sequence.
 pub fn starts(line: Line) -> bool
     ensures { result ≡ is_start line }
 {
-    match line {
-        Line::Unsegmented => false,
-        Line::Broken(_) => false,
-        Line::Restart => false,
-        Line::Start => true,
-        Line::Final => false,
-        Line::Next => false,
-    }
+    matches!(line, Line::Start)
 }

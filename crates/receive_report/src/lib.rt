@@ -8,37 +8,36 @@ ghost use Rattle.rules.specs.Records.{record_length, Filled, recorded, record_oc
 use rules::{Address, Record};
 
 // A record's octets before its addresses.
-fn head(r: Record) -> [u8; 11]
-    ensures { result ≡ take 11 (record_octets r) }
+#[tactic(auto, unfolding(rules::specs::Records::record_octets))]
+fn head(r: &Record) -> [u8; 11]
+    ensures { result ≡ take 11 (record_octets r.now) }
 {
-    let association = octets::octets2(r.key.association);
-    let context = octets::octets2(r.key.context.0);
-    let octets = octets::octets2(r.octets);
+    let [association, association_low] = octets::octets2(r.key.association);
+    let [context, context_low] = octets::octets2(r.key.context.0);
+    let [octets, octets_low] = octets::octets2(r.octets);
     [
         r.kind,
-        association[0],
-        association[1],
-        context[0],
-        context[1],
+        association,
+        association_low,
+        context,
+        context_low,
         r.key.reference.0,
         r.instruction,
         r.cause,
         r.segments,
-        octets[0],
-        octets[1],
+        octets,
+        octets_low,
     ]
 }
 
 // Writes an address to a report area from a place on, as far as it reaches: its length, and its octets.
-fn put_address(report: &mut [u8], at: usize, a: Address)
+fn put_address(report: &mut [u8], at: usize, a: &Address)
     requires { at ≤ 65568 }
-    ensures report_after { report.new ≡ splice report.old at (recorded a) }
-    ensures filled { Filled a }
+    ensures report_after { report.new ≡ splice report.old at (recorded a.now) }
+    ensures filled { Filled a.now }
 {
-    let length = [a.length];
-    octets::put_at(report, at, &length);
-    let octets = a.octets;
-    octets::put_at(report, at + 1, &octets);
+    octets::put_at(report, at, &[a.length]);
+    octets::put_at(report, at + 1, &a.octets);
 }
 
 // Writes a record's octets to a report area from a place on, as far as it reaches.
@@ -47,10 +46,7 @@ pub fn put_record(report: &mut [u8], at: usize, r: Record)
     ensures report_after { report.new ≡ splice report.old at (record_octets r) }
     ensures r_len { length (record_octets r) ≡ record_length }
 {
-    let first = head(r);
-    octets::put_at(report, at, &first);
-    let origin = r.key.origin;
-    put_address(report, at + 11, origin);
-    let destination = r.key.destination;
-    put_address(report, at + 32, destination);
+    octets::put_at(report, at, &head(&r));
+    put_address(report, at + 11, &r.key.origin);
+    put_address(report, at + 32, &r.key.destination);
 }

@@ -11,10 +11,12 @@ use Rattle.receive_report.proofs.put_record.Goals as goal
 pub returns : goal.returns
 unfolding record_octets
 returns c =
-    let d = c in
-    let o = d in
-    let q = o in
-    let s = q in
-    let r = s.args.r in
-    let f : Wrote _ s.args.at (take 11 (record_octets r)) _ _ = record { place = refl; stored = rw q.head-first.ensures at q.put_at.ensures } in
-    let g : Wrote _ (s.args.at + 11) (recorded r.key.origin) _ (s.args.at + 32) = record { place = omega (arith, o.put_address.ensures.filled); stored = o.put_address.ensures.report_after } in record { report_after = (wrote_then (wrote_then f g) (record { place = refl; stored = d.put_address-2.ensures.report_after })).stored; r_len = record-length r (record { origin = o.put_address.ensures.filled; destination = d.put_address-2.ensures.filled }) }
+    let r = c.args.r in
+    let origin = c.put_address.ensures in
+    let destination = c.put_address-2.ensures in
+    let front : Wrote _ c.args.at (take 11 (record_octets r)) _ _ = record { place = refl; stored = rw c.head.ensures at c.put_at.ensures } in
+    let middle : Wrote _ (c.args.at + 11) (recorded r.key.origin) _ (c.args.at + 32) = record { place = omega (arith, origin.filled); stored = origin.report_after } in
+    record {
+      report_after = (wrote_then (wrote_then front middle) (record { place = refl; stored = destination.report_after })).stored;
+      r_len = record-length r (record { origin = origin.filled; destination = destination.filled });
+    }
