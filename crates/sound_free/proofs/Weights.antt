@@ -8,7 +8,8 @@ use native.Mathlib.Omega.{arith}
 use borrow.Author.Tests.{eqb-true, eqb-false, eq-eqb, ne_eqb}
 use lib.Bits.{bit_or}
 use lib.Dec.{eqb}
-use lib.ListN.{length, drop, get_or, drop_of_length-le}
+use lib.ListN.{length, take, drop, get_or, length-drop, drop_of_length-le}
+use lib.Seq.{take_all}
 use Rattle.rules.specs.General.{every}
 use Rattle.rules.specs.Places.{is_free}
 use Rattle.rules.specs.Soundness.{is_zero, address_zero, free_sound}
@@ -16,6 +17,8 @@ use Rattle.rules.specs.declared.Address.{Address}
 use Rattle.rules.specs.declared.Place.{Place}
 use Rattle.rules.proofs.Lists.{left}
 use Rattle.rules.proofs.Nought.{sum-nought, or-nought}
+use Rattle.sound_free.specs.Idle.{sound_if_idle}
+use Rattle.sound_free.proofs.Parts.{in_two}
 
 -- a number that is taken several times
 times-nought : (k x : ℕ) → 0 < k → eqb (k * x) 0 ≡ eqb x 0
@@ -106,3 +109,10 @@ weight-nought p o d w eo ed ew =
     (is_zero p.segments)
     (address_zero p.key.origin)
     (address_zero p.key.destination))
+
+-- what two halves of eight weigh
+pub in_halves : (ps : List Place) (a b : ℕ) → length ps ≡ 16 → eqb a 0 ≡ every sound_if_idle (take 8 ps) → eqb b 0 ≡ every sound_if_idle (take 8 (drop 8 ps))
+    → eqb (bit_or a b) 0 ≡ every sound_if_idle ps
+in_halves ps a b h ea eb =
+    let rest : take 8 (drop 8 ps) ≡ drop 8 ps = take_all 8 (drop 8 ps) (rw (length-drop 8 ps) (omega arith)) in
+    rw (or-nought a b, ea, eb, rest) (sym (in_two sound_if_idle 8 ps 0))

@@ -2,7 +2,7 @@
 // exactly where all of them are.
 #![tactic(auto)]
 
-ghost use Rattle.std.specs.Prelude.{◌≡◌, ◌&&◌, ◌≤◌, eqb, take, drop};
+ghost use Rattle.std.specs.Prelude.{◌≡◌, ◌&&◌, ◌≤◌, eqb};
 ghost use Rattle.rules.specs.General.{every};
 ghost use Rattle.rules.specs.Places.{is_free};
 ghost use Rattle.rules.specs.Soundness.{is_zero, address_zero, free_sound};
@@ -17,15 +17,15 @@ pub fn word(a: u8, b: u8, c: u8, d: u8) -> u64
     ensures result_value { eqb result 0 ≡ (is_zero a && is_zero b && is_zero c && is_zero d) }
     ensures upper_bound { result ≤ word_most }
 {
-    (a as u64) + 256 * (b as u64) + 65536 * (c as u64) + 16777216 * (d as u64)
+    u64::from(u32::from_le_bytes([a, b, c, d]))
 }
 
 // What an address weighs: 0 where it is all zero.
-fn address_weight(a: Address) -> u64
-    ensures { eqb result 0 ≡ address_zero a }
+fn address_weight(a: &Address) -> u64
+    ensures { eqb result 0 ≡ address_zero a.now }
 {
-    let b = a.octets;
-    (a.length as u64)
+    let b = &a.octets;
+    u64::from(a.length)
         | word(b[0], b[1], b[2], b[3])
         | word(b[4], b[5], b[6], b[7])
         | word(b[8], b[9], b[10], b[11])
@@ -34,74 +34,46 @@ fn address_weight(a: Address) -> u64
 }
 
 // What a place weighs: 0 where it is free, and all zero.
-fn weight(p: Place) -> u64
-    ensures { eqb result 0 ≡ (is_free p && free_sound p) }
+fn weight(p: &Place) -> u64
+    ensures { eqb result 0 ≡ (is_free p.now && free_sound p.now) }
 {
-    let origin = p.key.origin;
-    let destination = p.key.destination;
-    let names = (p.key.association as u64) + 65536 * (p.key.context.0 as u64);
-    let more = (p.key.reference.0 as u64) | (p.octets as u64);
+    let names = u64::from(p.key.association) + 65536 * u64::from(p.key.context.0);
+    let more = u64::from(p.key.reference.0) | u64::from(p.octets);
     let rest = word(p.mark, p.instruction, p.remaining.0, p.segments);
-    let numbers = names | more | (p.start as u64) | rest;
-    numbers | address_weight(origin) | address_weight(destination)
+    let numbers = names | more | u64::from(p.start) | rest;
+    numbers | address_weight(&p.key.origin) | address_weight(&p.key.destination)
 }
 
 // What a place weighs where it is not open.
-fn idle_weight(p: Place) -> u64
-    ensures { eqb result 0 ≡ sound_if_idle p }
+fn idle_weight(p: &Place) -> u64
+    ensures { eqb result 0 ≡ sound_if_idle p.now }
 {
     let w = weight(p);
-    if p.mark == 1 {
-        return 0;
-    }
-    w
+    if p.mark == 1 { 0 } else { w }
 }
 
-// What the first eight places weigh where they are not open. A loop over eight is unrolled, and reads the places where they are; one over sixteen is not.
-fn lower_weight(places: [Place; 16]) -> u64
-    ensures { eqb result 0 ≡ every sound_if_idle (take 8 places) }
+// What places weigh that are not open.
+fn idle_weights(places: &[Place]) -> u64
+    ensures { eqb result 0 ≡ every sound_if_idle places.now }
 {
-    let mut sum: u64 = 0;
-    let mut i = 0;
-    while i < 8 {
-        let p = places[i];
-        sum = sum | idle_weight(p);
-        i += 1;
+    let mut sum = 0;
+    for p in places {
+        sum |= idle_weight(p);
     }
     sum
 }
 
-// .. and the others.
-fn upper_weight(places: [Place; 16]) -> u64
-    ensures { eqb result 0 ≡ every sound_if_idle (drop 8 places) }
-{
-    let mut sum: u64 = 0;
-    let mut i = 8;
-    while i < 16 {
-        let p = places[i];
-        sum = sum | idle_weight(p);
-        i += 1;
-    }
-    sum
-}
-
-// Whether each place that is not open is all zero.
+// Whether each place that is not open is all zero. A loop over eight is unrolled, and reads the places where they are; one over sixteen is not.
+#[tactic(auto, using(crate::proofs::Weights::in_halves))]
 pub fn idle_sound(places: [Place; 16]) -> bool
     ensures { result ≡ every sound_if_idle places }
 {
-    (lower_weight(places) | upper_weight(places)) == 0
+    (idle_weights(&places[..8]) | idle_weights(&places[8..])) == 0
 }
 
 // Whether no place is open.
 pub fn none_open(places: [Place; 16]) -> bool
     ensures { result ≡ every is_shut places }
 {
-    let mut i = 0;
-    while i < 16 {
-        if places[i].mark == 1 {
-            return false;
-        }
-        i += 1;
-    }
-    true
+    places.iter().all(|p| p.mark != 1)
 }

@@ -1,11 +1,10 @@
-use mathlib.Core.Path.{sym}
+use Rattle.std.proofs.Common.{sym, arith}
 use Rattle.rules.proofs.Nought.{or-nought}
-use native.Mathlib.Omega.{arith}
 use Rattle.sound_free.proofs.Weights.{address-zero}
 use Rattle.sound_free.proofs.address_weight.Goals as goal
 
 pub returns : goal.returns
 returns c =
     simp or-nought
-    (rw (c.word-5.ensures.result_value, c.word-4.ensures.result_value, c.word-3.ensures.result_value, c.word-2.ensures.result_value, c.word.ensures.result_value)
-    (sym (address-zero c.args.a (omega arith))))
+    (rw (c.from.ensures, c.word-5.ensures.result_value, c.word-4.ensures.result_value, c.word-3.ensures.result_value, c.word-2.ensures.result_value, c.word.ensures.result_value)
+    (sym (address-zero c.args.a.now (omega arith))))
