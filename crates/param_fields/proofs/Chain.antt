@@ -2,7 +2,7 @@
 use Rattle.std.specs.Prelude.{if◌then◌else◌, Result, Ok, Err}
 use Prim.Native.Nat.{ℕ, ◌+◌, ◌*◌, ◌%◌, ◌≤◌, ◌<◌}
 use mathlib.Core.Path.{◌≡◌, refl, sym, ap, ◌∙◌}
-use mathlib.Core.Bool.{Bool, true, false, not, beq, true≢false}
+use mathlib.Core.Bool.{Bool, true, false, not}
 use native.Mathlib.Omega.{arith}
 use borrow.Author.Tests.{lt-ltb, le-ltb}
 use mathlib.Core.List.{List, [], ◌∷◌, ◌++◌}
@@ -24,27 +24,6 @@ cut n at h = lt-ltb n (at + 1) (omega (arith, h))
 
 pub uncut : (n at : ℕ) → at < n → ltb n (at + 1) ≡ false
 uncut n at h = le-ltb n (at + 1) (omega (arith, h))
-
--- what an octet that is there says of the parameter
-pub octet-there : (s : List ℕ) (at x : ℕ) → octet_field s at ≡ Ok x → (ltb (length s) (at + 1) ≡ false) × (octet s at ≡ x)
-octet-there s at x e = go (ltb (length s) (at + 1)) refl
-  where
-    go : (b : Bool) → ltb (length s) (at + 1) ≡ b → (ltb (length s) (at + 1) ≡ false) × (octet s at ≡ x)
-    go true h = let z = simp h at e in cc
-    go false h = (h, let z = simp h at e in cc)
-
--- a test that is another one, or is not
-pub unlike : (a b : Bool) → not (beq a b) ≡ true → a ≡ not b
-unlike true false e = refl
-unlike false true e = refl
-unlike true true e = absurd (true≢false (sym e))
-unlike false false e = absurd (true≢false (sym e))
-
-pub alike : (a b : Bool) → not (beq a b) ≡ false → a ≡ b
-alike true true e = refl
-alike false false e = refl
-alike true false e = absurd (true≢false e)
-alike false true e = absurd (true≢false e)
 
 -- octet 1a after octet 1
 abbrev pub after1a : List Entry → ℕ → Result (ℕ × ℕ) Fault → Result (Context × ℕ × ℕ) Fault
@@ -80,6 +59,23 @@ module _ (registry : List Entry) (s : List ℕ) (there : ltb (length s) 1 ≡ fa
       (judged-last (second_checks s) (eight registry x.0 1) Err (Ok (x, kind_of registry x.0, 2))
       ∙ judged-last (last_checks s 1) (23 when is_padded s blaming 1) Err (known_field registry x false 1)
       ∙ sym (fault-then (after1a registry (octet s 0)) (last_checks s 1) Err (Ok (octet s 1, 2))))
+
+-- octet 1, and what follows it
+abbrev pub after1 : List Entry → List ℕ → Result ℕ Fault → Result (Context × ℕ × ℕ) Fault
+after1 registry s (Err e) = Err e
+after1 registry s (Ok x) = if leb 128 x then known_field registry (record { 0 = x % 128 }) false 0 else after1a registry x (last_field s 1)
+
+pub context-is : (registry : List Entry) (s : List ℕ) → context_field registry s ≡ after1 registry s (octet_field s 0)
+unfolding context_field octet_field
+context-is registry s = there (ltb (length s) 1) refl
+  where
+    one : (b : Bool) → leb 128 (octet s 0) ≡ b → ltb (length s) 1 ≡ false → context_field registry s ≡ after1 registry s (octet_field s 0)
+    one true e h = context-one registry s h e ∙ simp (h, e)
+    one false e h = context-two registry s h e ∙ simp (h, e)
+
+    there : (b : Bool) → ltb (length s) 1 ≡ b → context_field registry s ≡ after1 registry s (octet_field s 0)
+    there true h = simp h
+    there false h = one (leb 128 (octet s 0)) refl h
 
 -- octet 3a, at + 1, after octet 3
 abbrev pub after3a : ℕ → ℕ → Result (ℕ × ℕ) Fault → Result (Sequence × ℕ) Fault
@@ -127,3 +123,23 @@ module _ (s : List ℕ) (at : ℕ) (there : ltb (length s) (at + 1) ≡ false) w
       simp (there, e, unlike-one, past)
       (judged-last (last_checks s (at + 1)) (7 when is_unsegmented (is_new x) (remaining_of x) blaming at) Err (Ok (q, at + 1 + 1))
       ∙ sym (fault-then (after3a at x) (last_checks s (at + 1)) Err (Ok (octet s (at + 1), at + 1 + 1))))
+
+-- octet 3, and what follows it
+abbrev pub after3 : List ℕ → ℕ → Result ℕ Fault → Result (Sequence × ℕ) Fault
+after3 s at (Err e) = Err e
+after3 s at (Ok x) = if leb 128 x then alone3 at x else after3a at x (last_field s (at + 1))
+
+pub sequence-is : (s : List ℕ) (at : ℕ) → sequence_field s at ≡ after3 s at (octet_field s at)
+unfolding sequence_field octet_field
+sequence-is s at = there (ltb (length s) (at + 1)) refl
+  where
+    one : (b : Bool) → leb 128 (octet s at) ≡ b → ltb (length s) (at + 1) ≡ false → sequence_field s at ≡ after3 s at (octet_field s at)
+    one true e h = sequence-one s at h e ∙ simp (h, e)
+    one false e h = sequence-two s at h e ∙ simp (h, e)
+
+    there : (b : Bool) → ltb (length s) (at + 1) ≡ b → sequence_field s at ≡ after3 s at (octet_field s at)
+    there true h = simp h
+    there false h = one (leb 128 (octet s at)) refl h
+
+-- each field by its first octet
+pub ruleset steps = (context-is, sequence-is)

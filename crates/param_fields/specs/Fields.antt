@@ -10,7 +10,7 @@ use Rattle.rules.specs.declared.Span.{Span}
 use Rattle.param_fields.specs.declared.Sequence.{Sequence}
 
 -- one octet that has to be there
-abbrev pub octet_field : List ℕ → ℕ → Result ℕ Fault
+unfoldable pub octet_field : List ℕ → ℕ → Result ℕ Fault
 octet_field s at = judged_at (cut_before s (at + 1) ∷ []) Err (Ok (octet s at))
 
 unfoldable pub last_field : List ℕ → ℕ → Result (ℕ × ℕ) Fault
@@ -30,9 +30,10 @@ context_field registry s =
 unfoldable pub sequence_field : List ℕ → ℕ → Result (Sequence × ℕ) Fault
 sequence_field s at =
     judged_at (sequence_checks s at) Err
-    (Ok
-    (record { new = is_new (octet s at); remaining = record { 0 = remaining_of (octet s at) }; reference = record { 0 = reference_of s at } }
-    , past_sequence s at))
+    (Ok (
+      record { new = is_new (octet s at); remaining = record { 0 = remaining_of (octet s at) }; reference = record { 0 = reference_of s at } },
+      past_sequence s at,
+    ))
 
 unfoldable pub address_field : List ℕ → ℕ → Result (Span × ℕ) Fault
 address_field s at = judged_at (address_checks s at) Err (Ok (span_at true s at, past_address s at))

@@ -1,7 +1,7 @@
 // The fields of a parameter, each by itself: what it says, then the position past it; or its refusal.
 #![tactic(auto)]
 
-ghost use Rattle.std.specs.Prelude.{◌≡◌, ◌≤◌, length};
+ghost use Rattle.std.specs.Prelude.{◌≡◌, ◌≤◌, ◌<◌, length, OnOk};
 ghost use Rattle.rules.specs.Numbers.{parameter_most};
 ghost use Rattle.refusals.specs.Numbers.{number_of};
 ghost use Rattle.param_fields.specs.Fields.{octet_field, last_field, known_field, context_field, sequence_field, address_field};
@@ -28,16 +28,18 @@ fn fault(refusal: Refusal, at: usize) -> Fault
 }
 
 // The octet at a position, where the parameter goes on so far.
+#[tactic(auto, unfolding(crate::specs::Fields::octet_field))]
 fn octet(s: &[u8], at: usize) -> Result<u8, Fault>
     requires { length s.now ≤ parameter_most }
-    ensures { result ≡ octet_field s.now at }
+    ensures value { result ≡ octet_field s.now at }
+    ensures there { OnOk result (at < length s.now) }
 {
     let cut = fault(Refusal::ParameterCut, s.len());
     s.get(at).copied().ok_or(cut)
 }
 
 // An octet that has to be the last of its field.
-#[tactic(auto, unfolding(crate::specs::Fields::last_field))]
+#[tactic(auto, unfolding(crate::specs::Fields::last_field, crate::specs::Fields::octet_field))]
 pub fn last_field(s: &[u8], at: usize) -> Result<(u8, usize), Fault>
     requires { length s.now ≤ parameter_most }
     ensures { result ≡ last_field s.now at }
@@ -69,7 +71,7 @@ fn known(
     Ok((context, kind, last + 1))
 }
 
-#[tactic(auto, unfolding(crate::specs::Fields::context_field))]
+#[tactic(auto, using(crate::proofs::Chain::steps))]
 pub fn context_field(registry: [Entry; 8], s: &[u8]) -> Result<(Context, u8, usize), Fault>
     requires { length s.now ≤ parameter_most }
     ensures { result ≡ context_field registry s.now }
@@ -83,7 +85,7 @@ pub fn context_field(registry: [Entry; 8], s: &[u8]) -> Result<(Context, u8, usi
     known(registry, context, y % 128 == 0, 1)
 }
 
-#[tactic(auto, unfolding(crate::specs::Fields::sequence_field))]
+#[tactic(auto, using(crate::proofs::Chain::steps))]
 pub fn sequence_field(s: &[u8], at: usize) -> Result<(Sequence, usize), Fault>
     requires { length s.now ≤ parameter_most }
     ensures { result ≡ sequence_field s.now at }
@@ -111,7 +113,7 @@ pub fn sequence_field(s: &[u8], at: usize) -> Result<(Sequence, usize), Fault>
     ))
 }
 
-#[tactic(auto, unfolding(crate::specs::Fields::address_field))]
+#[tactic(auto, unfolding(crate::specs::Fields::address_field, crate::specs::Fields::octet_field))]
 pub fn address_field(s: &[u8], at: usize) -> Result<(Span, usize), Fault>
     requires { length s.now ≤ parameter_most }
     ensures { result ≡ address_field s.now at }
