@@ -1,2 +1,1 @@
-pub mod Digest
 pub mod Filled

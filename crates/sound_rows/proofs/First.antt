@@ -17,18 +17,18 @@ use Rattle.rules.proofs.Nought.{or-nought}
 module _ (m : List ℕ) where
   -- one row more
   pub empty-more : (at i rest x : ℕ) → (eqb rest 0 ≡ true → EmptyFrom m at i) → eqb x 0 ≡ is_bare m i
-      → eqb (bit_or (bit_or (number_at m 0 i) x) rest) 0 ≡ true → EmptyFrom m at (i + 1)
+      → eqb (bit_or rest (bit_or (number_at m 0 i) x)) 0 ≡ true → EmptyFrom m at (i + 1)
   empty-more at i rest x so_far bare e row h k = go (eqb row i) refl
     where
-      both : (eqb (bit_or (number_at m 0 i) x) 0 ≡ true) × (eqb rest 0 ≡ true)
-      both = (and-eq-true_iff _ _).0 (sym (or-nought (bit_or (number_at m 0 i) x) rest) ∙ e)
+      both : (eqb rest 0 ≡ true) × (eqb (bit_or (number_at m 0 i) x) 0 ≡ true)
+      both = (and-eq-true_iff _ _).0 (sym (or-nought rest (bit_or (number_at m 0 i) x)) ∙ e)
 
       here : (is_unused m i && is_bare m i) ≡ true
-      here = rw (← bare) (sym (or-nought (number_at m 0 i) x) ∙ both.0)
+      here = rw (← bare) (sym (or-nought (number_at m 0 i) x) ∙ both.1)
 
       go : (b : Bool) → eqb row i ≡ b → (is_unused m row && is_bare m row) ≡ true
       go true s = rw (eqb-true row i s) here
-      go false s = so_far both.1 row h (omega (arith, k, eqb-false row i s))
+      go false s = so_far both.0 row h (omega (arith, k, eqb-false row i s))
 
   used-row : (i : ℕ) → is_used m i ≡ true → row_sound m i ≡ name_fits m i
   used-row i e = rw (e, ne_eqb (number_at m 0 i) 0 (λ z. omega (arith, eqb-true (number_at m 0 i) 1 e)))

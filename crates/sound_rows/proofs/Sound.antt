@@ -1,11 +1,14 @@
 -- When all rows are sound, as the code asks it.
 use Prim.Native.Nat.{ℕ}
-use mathlib.Core.Path.{◌≡◌, refl, sym, ◌∙◌}
-use mathlib.Core.Bool.{Bool, true, false, not, ◌&&◌, ◌||◌, and-false, and-true, and-eq-true_iff}
+use Rattle.std.specs.Prelude.{Some}
+use Rattle.std.specs.Bool.{then_some}
+use mathlib.Core.Path.{◌≡◌, refl, sym, ap, ◌∙◌}
+use mathlib.Core.Bool.{Bool, true, false, not, ◌&&◌, ◌||◌, and-false, and-true, and-eq-true_iff, true≢false}
 use mathlib.Core.List.{List}
 use native.Mathlib.Omega.{arith}
 use borrow.Author.Tests.{eqb-true, eqb-false, le-leb, lt-leb}
 use lib.Dec.{eqb, leb}
+use Rattle.rules.specs.Places.{is_at}
 use Rattle.rules.specs.Summary.{every_below, number_at, is_unused, is_bare, row_sound}
 use Rattle.rules.proofs.Below.{below_both}
 use Rattle.sound_rows.specs.Listing.{name_fits}
@@ -24,6 +27,15 @@ row-pick m a bare g = go (eqb m 0) refl (eqb m 1) refl bare g
 
 pub first_of : (a b : Bool) → (a && b) ≡ true → a ≡ true
 first_of a b e = ((and-eq-true_iff a b).0 e).0
+
+-- a number that is told where something holds
+pub is_at-then : (b : Bool) (k : ℕ) → is_at (then_some b k) ≡ b
+is_at-then true k = refl
+is_at-then false k = refl
+
+pub of_then : (b : Bool) (k n : ℕ) → then_some b k ≡ Some n → (b ≡ true) × (k ≡ n)
+of_then true k n e = (refl, cc)
+of_then false k n e = absurd (true≢false (ap is_at (sym e)))
 
 module _ (m : List ℕ) where
   abbrev pub mark_sound : ℕ → Bool

@@ -1,8 +1,9 @@
 // Whether a summary, which its caller lends, is sound beside open places, of which their associations are told. The marks are at 0 + i, as the rules have it.
 #![tactic(auto)]
 
-ghost use Rattle.std.specs.Prelude.{if◌then◌else◌, ◌≡◌, true, not, ◌&&◌, ◌||◌, ◌+◌, ◌<◌, ◌≤◌, ◌%◌, eqb, leb, length, take};
+ghost use Rattle.std.specs.Prelude.{if◌then◌else◌, ℕ, ◌≡◌, true, not, ◌&&◌, ◌||◌, ◌+◌, ◌<◌, ◌≤◌, ◌%◌, eqb, leb, length, Some};
 ghost use Rattle.rules.specs.General.{every, every_two};
+ghost use Rattle.rules.specs.Places.{is_at};
 ghost use Rattle.rules.specs.Summary.{every_below, row_count, is_used, is_bare, row_sound};
 ghost use Rattle.sound_rows.specs.Listing.{is_other, of_those, back, low_of, name_fits, EmptyFrom, listed_in, sound_beside};
 
@@ -18,54 +19,38 @@ fn rest_of(m: &[u64; rules::SUMMARY], i: usize) -> u64
 fn unmarked(mark: u64, number: u64) -> u64
     ensures { eqb result 0 ≡ (not (eqb mark 0) || eqb number 0) }
 {
-    if mark == 0 {
-        return number;
-    }
-    0
+    if mark == 0 { number } else { 0 }
 }
 
-// Whether every row is sound, and where so, how many are used.
-#[derive(Clone, Copy)]
-struct Rows {
-    sound: bool,
-    used: usize,
-}
-
-// Used rows may stand anywhere. With no way out the loop takes several rows at a time.
-fn scattered_sound(m: &[u64; rules::SUMMARY]) -> Rows
-    ensures { (result.sound ≡ every_below row_count (row_sound m.now)) × (result.sound ≡ true → result.used ≡ length (of_those (is_used m.now) (low_of m.now) row_count)) }
+// How many rows are used, where every row is sound. Used rows may stand anywhere. With no way out the loop takes several rows at a time.
+fn scattered_sound(m: &[u64; rules::SUMMARY]) -> Option<usize>
+    ensures sound { is_at result ≡ every_below row_count (row_sound m.now) }
+    ensures used { (k : ℕ) → result ≡ Some k → k ≡ length (of_those (is_used m.now) (low_of m.now) row_count) }
 {
     let mut marks: u64 = 0;
     let mut names: u64 = 0;
     let mut rest: u64 = 0;
-    let mut used: u64 = 0;
-    let mut i = 0;
-    while i < 64 {
+    let mut used: usize = 0;
+    for i in 0..rules::ROWS {
         let mark = m[0 + i];
-        marks = mark | marks;
-        names = m[64 + i] | names;
-        rest = unmarked(mark, rest_of(m, i)) | rest;
-        used += mark % 2;
-        i += 1;
+        marks |= mark;
+        names |= m[64 + i];
+        rest |= unmarked(mark, rest_of(m, i));
+        used += (mark % 2) as usize;
     }
-    Rows {
-        sound: (marks <= 1) & (names <= 65535) & (rest == 0),
-        used: used as usize,
-    }
+    ((marks <= 1) & (names <= 65535) & (rest == 0)).then_some(used)
 }
 
 // How many rows are used before the first that is not.
 fn first_used(m: &[u64; rules::SUMMARY]) -> usize
     ensures { (result ≤ 64) × (every_below result (is_used m.now) ≡ true) }
 {
-    let mut i = 0;
-    while i < 64 {
-        if !(m[0 + i] == 1) {
+    for i in 0..rules::ROWS {
+        if m[0 + i] != 1 {
             return i;
         }
-        i += 1;
     }
-    64
+    rules::ROWS
 }
 
 // All associations of the first n rows, in one.
@@ -74,10 +59,8 @@ fn names_of(m: &[u64; rules::SUMMARY], n: usize) -> u64
     ensures { leb result 65535 ≡ every_below n (name_fits m.now) }
 {
     let mut names: u64 = 0;
-    let mut i = 0;
-    while i < n {
-        names = m[64 + i] | names;
-        i += 1;
+    for i in 0..n {
+        names |= m[64 + i];
     }
     names
 }
@@ -88,25 +71,23 @@ fn rest_from(m: &[u64; rules::SUMMARY], at: usize) -> u64
     ensures { eqb result 0 ≡ true → EmptyFrom m.now at 64 }
 {
     let mut rest: u64 = 0;
-    let mut i = at;
-    while i < 64 {
-        rest = m[0 + i] | rest_of(m, i) | rest;
-        i += 1;
+    for i in at..rules::ROWS {
+        rest |= m[0 + i] | rest_of(m, i);
     }
     rest
 }
 
-// Rows are used from the first on, as calls leave them, so that mostly no mark need be asked twice.
-fn rows_sound(m: &[u64; rules::SUMMARY]) -> Rows
-    ensures { (result.sound ≡ every_below row_count (row_sound m.now)) × (result.sound ≡ true → result.used ≡ length (of_those (is_used m.now) (low_of m.now) row_count)) }
+// How many rows are used, where every row is sound. They are used from the first on, as calls leave them, so that mostly no mark need be asked twice.
+fn rows_sound(m: &[u64; rules::SUMMARY]) -> Option<usize>
+    ensures sound { is_at result ≡ every_below row_count (row_sound m.now) }
+    ensures used { (k : ℕ) → result ≡ Some k → k ≡ length (of_those (is_used m.now) (low_of m.now) row_count) }
 {
     let used = first_used(m);
-    if !(rest_from(m, used) == 0) {
-        return scattered_sound(m);
-    }
-    Rows {
-        sound: names_of(m, used) <= 65535,
-        used,
+    let empty = rest_from(m, used) == 0;
+    if empty {
+        (names_of(m, used) <= 65535).then_some(used)
+    } else {
+        scattered_sound(m)
     }
 }
 
@@ -129,10 +110,8 @@ fn is_new(list: &[u16; 64], n: usize, x: u16) -> bool
     ensures { result ≡ every (is_other x) (back list.now n) }
 {
     let mut new = true;
-    let mut i = 0;
-    while i < n {
-        new = !(list[i] == x) & new;
-        i += 1;
+    for i in 0..n {
+        new = (list[i] != x) & new;
     }
     new
 }
@@ -142,10 +121,7 @@ fn is_new_if(hint: u8, list: &[u16; 64], n: usize, x: u16) -> bool
     requires { n ≤ 64 }
     ensures { result ≡ (if eqb hint 0 then true else every (is_other x) (back list.now n)) }
 {
-    if hint == 0 {
-        return true;
-    }
-    is_new(list, n, x)
+    hint == 0 || is_new(list, n, x)
 }
 
 // A hint: a number's index in the list, and never 0.
@@ -161,35 +137,25 @@ fn is_listed(hint: u8, list: &[u16; 64], n: usize, x: u16) -> bool
     requires { n ≤ 64 }
     ensures { result ≡ not (every (is_other x) (back list.now n)) }
 {
-    let i = (hint % 64) as usize;
-    if (i < n) & (list[i] == x) {
-        return true;
-    }
-    !is_new(list, n, x)
+    let i = usize::from(hint % 64);
+    ((i < n) & (list[i] == x)) || !is_new(list, n, x)
 }
 
-// Whether each of n associations is listed.
-fn all_listed(list: &[u16; 64], hints: &[u8; 256], used: usize, names: [u16; 16], n: usize) -> bool
-    requires { (used ≤ 64) × (n ≤ 16) }
-    ensures { result ≡ every (listed_in (back list.now used)) (take n names) }
+// Whether each of some associations is listed.
+fn all_listed(list: &[u16; 64], hints: &[u8; 256], used: usize, names: &[u16]) -> bool
+    requires { used ≤ 64 }
+    ensures { result ≡ every (listed_in (back list.now used)) names.now }
 {
-    let mut i = 0;
-    while i < n {
-        let x = names[i];
-        let octet = octet_of(x);
-        if !is_listed(hints[octet], list, used, x) {
-            return false;
-        }
-        i += 1;
-    }
-    true
+    names
+        .iter()
+        .all(|x| is_listed(hints[octet_of(*x)], list, used, *x))
 }
 
-// Of rows that are sound: whether no two are used for one association and each of n associations has one. Those of used rows are listed in one go, which ends with the last of
+// Of rows that are sound: whether no two are used for one association and each of some associations has one. Those of used rows are listed in one go, which ends with the last of
 // them; one is looked for among those before it only where one of them has its low octet.
-fn are_told(m: &[u64; rules::SUMMARY], used: usize, names: [u16; 16], n: usize) -> bool
-    requires { (used ≡ length (of_those (is_used m.now) (low_of m.now) row_count)) × (n ≤ 16) }
-    ensures { result ≡ (every_two is_other (of_those (is_used m.now) (low_of m.now) row_count) && every (listed_in (of_those (is_used m.now) (low_of m.now) row_count)) (take n names)) }
+fn are_told(m: &[u64; rules::SUMMARY], used: usize, names: &[u16]) -> bool
+    requires { used ≡ length (of_those (is_used m.now) (low_of m.now) row_count) }
+    ensures { result ≡ (every_two is_other (of_those (is_used m.now) (low_of m.now) row_count) && every (listed_in (of_those (is_used m.now) (low_of m.now) row_count)) names.now) }
 {
     let mut list = [0u16; 64];
     let mut hints = [0u8; 256];
@@ -197,7 +163,7 @@ fn are_told(m: &[u64; rules::SUMMARY], used: usize, names: [u16; 16], n: usize) 
     let mut told = 0;
     let mut i = 0;
     while told < used {
-        if !(m[0 + i] == 1) {
+        if m[0 + i] != 1 {
             i += 1;
             continue;
         }
@@ -209,17 +175,15 @@ fn are_told(m: &[u64; rules::SUMMARY], used: usize, names: [u16; 16], n: usize) 
         told += 1;
         i += 1;
     }
-    apart & all_listed(&list, &hints, told, names, n)
+    apart & all_listed(&list, &hints, told, names)
 }
 
-// Whether a summary is sound beside open places of n associations: any bits may be handed over.
-pub fn is_sound(m: &[u64; rules::SUMMARY], names: [u16; 16], n: usize) -> bool
-    requires { n ≤ 16 }
-    ensures { result ≡ sound_beside m.now (take n names) }
+// Whether a summary is sound beside open places of some associations: any bits may be handed over.
+pub fn is_sound(m: &[u64; rules::SUMMARY], names: &[u16]) -> bool
+    ensures { result ≡ sound_beside m.now names.now }
 {
-    let rows = rows_sound(m);
-    if !rows.sound {
-        return false;
+    match rows_sound(m) {
+        Some(used) => are_told(m, used, names),
+        None => false,
     }
-    are_told(m, rows.used, names, n)
 }

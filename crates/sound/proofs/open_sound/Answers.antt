@@ -1,4 +1,4 @@
-use mathlib.Core.Path.{sym, ap, ◌∙◌}
+use Rattle.std.proofs.Common.{rules, sym, ap, ◌∙◌}
 use mathlib.Core.Bool.{and-true}
 use Rattle.rules.specs.General.{every_two}
 use Rattle.sound_rows.specs.Listing.{is_other}
@@ -9,12 +9,11 @@ use Rattle.sound.proofs.open_sound.Goals as goal
 pub returns-then-all_differ : goal.returns-then-all_differ
 unfolding open_part
 returns-then-all_differ c =
-    let t = c.args.t in
-    let told = c.all_differ.ensures ∙ ap (every_two is_other) c.look_over-seen.ensures.open_bound.1 in
-    let apart = told-all t.places (sym told ∙ c.if-all_differ.true) in
-    c.look_over-seen.ensures.sound_value ∙ sym (rw apart (and-true _))
+    let seen = c.look_over-seen.ensures in
+    let told = c.all_differ.ensures ∙ ap (every_two is_other) (c.as_slice.ensures.value ∙ seen.digests) in
+    let apart = told-all c.args.t.places (sym told ∙ c.if-all_differ.true) in
+    seen.sound_value ∙ sym (rw apart (and-true _))
 
-pub returns : goal.returns
+pub returns-else-all_differ : goal.returns-else-all_differ
 unfolding open_part
-returns c =
-    rw (c.keys_apart.ensures, c.look_over-seen.ensures.sound_value)
+returns-else-all_differ c = search (rules, c.look_over-seen.ensures.sound_value)

@@ -1,17 +1,12 @@
-use mathlib.Core.Path.{◌≡◌, refl}
-use native.Mathlib.Numerals.{add-one}
-use native.Mathlib.Omega.{arith}
+use Rattle.std.proofs.Common.{refl, add-one}
+use mathlib.Core.Bool.{and_comm}
+use Rattle.rules.specs.Summary.{every_below}
+use Rattle.sound_rows.specs.Listing.{name_fits}
 use Rattle.sound_rows.proofs.Bits.{or-below}
 use Rattle.sound_rows.proofs.names_of.Goals as goal
 
-pub loop-i-init : goal.loop-i-init
-loop-i-init c = (omega arith, refl)
-
 pub loop-i-preserved : goal.loop-i-preserved
 loop-i-preserved c =
-    (omega arith, rw (add-one c.loop-i.i, or-below 16 _ _ 65535 refl, c.loop-i.invariant.1))
-
-pub returns : goal.returns
-returns c =
-    let end : c.loop-i.i ≡ c.args.n = omega arith in
-    rw end at c.loop-i.invariant.1
+    let m = c.args.m.now in
+    let i = c.loop-i.i in
+    rw (add-one i, or-below 16 _ _ 65535 refl, c.loop-i.invariant) (and_comm (every_below i (name_fits m)) (name_fits m i))

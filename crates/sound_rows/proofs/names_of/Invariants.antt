@@ -1,12 +1,7 @@
-use Prim.Native.Nat.{◌-◌, ◌≤◌}
-use mathlib.Core.Path.{◌≡◌}
-use lib.Dec.{leb}
+use Rattle.std.specs.Prelude.{◌≡◌, leb}
 use Rattle.rules.specs.Summary.{every_below}
 use Rattle.sound_rows.specs.Listing.{name_fits}
 use Rattle.sound_rows.proofs.names_of.Given as goal
 
 abbrev pub invariant-loop-i : goal.invariant-loop-i
-invariant-loop-i l = (l.i ≤ l.n) × (leb l.names 65535 ≡ every_below l.i (name_fits l.m))
-
-abbrev pub decreases-loop-i : goal.decreases-loop-i
-decreases-loop-i l = l.n - l.i
+invariant-loop-i l = leb l.names 65535 ≡ every_below l.i (name_fits l.m)

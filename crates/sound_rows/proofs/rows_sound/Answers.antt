@@ -1,15 +1,17 @@
-use mathlib.Core.Path.{sym, ◌∙◌}
+use Rattle.std.proofs.Common.{sym, ◌∙◌}
 use borrow.Author.Tests.{eq-eqb}
 use Rattle.sound_rows.proofs.First.{rows-first, used-first}
+use Rattle.sound_rows.proofs.Sound.{is_at-then, of_then}
 use Rattle.sound_rows.proofs.rows_sound.Goals as goal
 
-pub returns-then-not-rest_from : goal.returns-then-not-rest_from
-returns-then-not-rest_from c = c.scattered_sound.ensures
-
-pub returns : goal.returns
-returns c =
-    let m = c.args.m.now in
-    let k = c.first_used-used.result in
+pub returns-then-empty-clause-sound : goal.returns-then-empty-clause-sound
+returns-then-empty-clause-sound c =
     let used = c.first_used-used.ensures in
-    let none = c.rest_from.ensures (eq-eqb _ _ c.if-not-rest_from.false) in
-    (c.names_of.ensures ∙ sym (rows-first m k used.0 used.1 none), λ _. used-first m k used.0 used.1 none)
+    let none = c.rest_from-empty.ensures (eq-eqb _ _ c.if-empty.true) in
+    rw (c.then_some.ensures, is_at-then) (c.names_of.ensures ∙ sym (rows-first c.args.m.now c.first_used-used.result used.0 used.1 none))
+
+pub returns-then-empty-clause-used : goal.returns-then-empty-clause-used
+returns-then-empty-clause-used c = λ k e.
+    let used = c.first_used-used.ensures in
+    let none = c.rest_from-empty.ensures (eq-eqb _ _ c.if-empty.true) in
+    sym (of_then _ _ k (sym c.then_some.ensures ∙ e)).1 ∙ used-first c.args.m.now c.first_used-used.result used.0 used.1 none
