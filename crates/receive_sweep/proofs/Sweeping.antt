@@ -2,20 +2,20 @@
 use Rattle.std.specs.Prelude.{if◌then◌else◌, Some}
 use Prim.Native.Nat.{ℕ, zero, suc, ◌+◌, ◌*◌, ◌≤◌, ◌<◌}
 use mathlib.Core.Path.{◌≡◌, refl, sym, ap, ◌∙◌}
-use mathlib.Core.Bool.{Bool, true, false}
+use mathlib.Core.Bool.{Bool, true, false, ◌||◌}
 use mathlib.Core.List.{List, [], ◌∷◌, map, append-nil}
 use native.Mathlib.Nat.{le_of_suc-le-suc, not-suc-le-zero}
 use native.Mathlib.Numerals.{add-one}
 use native.Mathlib.Omega.{arith}
 use lib.ListN.{length, drop, get_or, set, length-append, drop_of_length-le}
 use lib.Seq.{set-get_or}
+use Rattle.std.specs.List.{list_any}
 use Rattle.octets.specs.Splice.{splice, Wrote}
 use Rattle.octets.proofs.Splice.{splice-append, splice-length, splice-nil}
 use Rattle.rules.specs.General.{those}
 use Rattle.rules.specs.Numbers.{place_count}
 use Rattle.rules.specs.Places.{no_place, free_place, first_from, is_at}
 use Rattle.rules.specs.Records.{record_length, records_octets}
-use Rattle.rules.specs.Receiving.{with_places}
 use Rattle.rules.specs.Sweep.{loss_of, freed_by, sweep}
 use Rattle.rules.proofs.Lists.{left}
 use Rattle.rules.specs.declared.Place.{Place}
@@ -34,6 +34,15 @@ none-those test (p ∷ ps) i e = go (test p) refl e (none-those test ps (i + 1))
         → (those test (p ∷ ps) ≡ []) × (map (freed_by test) (p ∷ ps) ≡ p ∷ ps)
     go true t f more = let z : ◌≡◌ {A = ℕ} 0 1 = cc in absurd (omega arith)
     go false t f more = (rw (t, (more f).0), rw (t, (more f).1))
+
+-- whether any passes is whether the first that does is at a place
+pub any_placed : (test : Place → Bool) (ps : List Place) (i : ℕ) → list_any test ps ≡ is_at (first_from test ps i)
+any_placed test [] i = refl
+any_placed test (p ∷ ps) i = go (test p) (any_placed test ps (i + 1))
+  where
+    go : (b : Bool) → list_any test ps ≡ is_at (first_from test ps (i + 1)) → (b || list_any test ps) ≡ is_at (if b then Some i else first_from test ps (i + 1))
+    go true e = refl
+    go false e = e
 
 -- l with f done to its first i elements
 abbrev done : {A : Type 0} → (A → A) → ℕ → List A → List A
@@ -64,41 +73,41 @@ done_all f (suc i) [] h = refl
 done_all f zero (x ∷ l) h = absurd (not-suc-le-zero h)
 done_all f (suc i) (x ∷ l) h = ap (λ (t : List _). f x ∷ t) (done_all f i l (le_of_suc-le-suc h))
 
--- a sweep of t at turn i: the places before i are done, and what those from i on give is still to be counted and written
-pub record Sofar (which : Test) (t : Table) (whole : List ℕ) (i n : ℕ) (next : Table) (report : List ℕ) : Type 0 where
-  pub size : length t.places ≡ place_count
+-- a sweep of the places ps at turn i: those before i are done, and what those from i on give is still to be counted and written
+pub record Sofar (which : Test) (ps : List Place) (whole : List ℕ) (i n : ℕ) (now : List Place) (report : List ℕ) : Type 0 where
+  pub size : length ps ≡ place_count
   pub inside : i ≤ place_count
   pub few : n ≤ i
   pub area : length report ≡ length whole
-  pub table : next ≡ with_places t (done (freed_by (test_of which)) i t.places)
-  pub counted : n + length (losses which (drop i t.places)) ≡ length (losses which t.places)
-  pub sized : record_length * n + length (records_octets (losses which (drop i t.places))) ≡ length (records_octets (losses which t.places))
-  pub written : splice report (record_length * n) (records_octets (losses which (drop i t.places))) ≡ splice whole 0 (records_octets (losses which t.places))
+  pub places : now ≡ done (freed_by (test_of which)) i ps
+  pub counted : n + length (losses which (drop i ps)) ≡ length (losses which ps)
+  pub sized : record_length * n + length (records_octets (losses which (drop i ps))) ≡ length (records_octets (losses which ps))
+  pub written : splice report (record_length * n) (records_octets (losses which (drop i ps))) ≡ splice whole 0 (records_octets (losses which ps))
 
-module _ {which : Test} {t : Table} {whole : List ℕ} {i n : ℕ} {next : Table} {report : List ℕ} (s : Sofar which t whole i n next report) where
+module _ {which : Test} {ps : List Place} {whole : List ℕ} {i n : ℕ} {now : List Place} {report : List ℕ} (s : Sofar which ps whole i n now report) where
   abbrev place : Place
-  place = get_or t.places i no_place
+  place = get_or ps i no_place
 
   -- the place at i is still the table's own
-  place_is : get_or next.places i no_place ≡ place
-  place_is = rw s.table (done_at (freed_by (test_of which)) i t.places no_place)
+  place_is : get_or now i no_place ≡ place
+  place_is = rw s.places (done_at (freed_by (test_of which)) i ps no_place)
 
   module _ (h : i < place_count) where
-    here : i < length t.places
+    here : i < length ps
     here = omega arith
 
-    left-due : test_of which place ≡ true → losses which (drop i t.places) ≡ loss_of (cause_of which) place ∷ losses which (drop (i + 1) t.places)
+    left-due : test_of which place ≡ true → losses which (drop i ps) ≡ loss_of (cause_of which) place ∷ losses which (drop (i + 1) ps)
     unfolding losses
-    left-due e = rw (left t.places no_place i here) (simp e)
+    left-due e = rw (left ps no_place i here) (simp e)
 
-    left-kept : test_of which place ≡ false → losses which (drop i t.places) ≡ losses which (drop (i + 1) t.places)
+    left-kept : test_of which place ≡ false → losses which (drop i ps) ≡ losses which (drop (i + 1) ps)
     unfolding losses
-    left-kept e = rw (left t.places no_place i here) (simp e)
+    left-kept e = rw (left ps no_place i here) (simp e)
 
     -- a turn that loses a place
-    pub turn-due : test_of which (get_or next.places i no_place) ≡ true → (free : Place) → free ≡ free_place → (after : List ℕ)
-        → Wrote report (record_length * n) (records_octets (loss_of (cause_of which) (get_or next.places i no_place) ∷ [])) after (record_length * (n + 1))
-        → Sofar which t whole (i + 1) (n + 1) (with_places next (set next.places i free)) after
+    pub turn-due : test_of which (get_or now i no_place) ≡ true → (free : Place) → free ≡ free_place → (after : List ℕ)
+        → Wrote report (record_length * n) (records_octets (loss_of (cause_of which) (get_or now i no_place) ∷ [])) after (record_length * (n + 1))
+        → Sofar which ps whole (i + 1) (n + 1) (set now i free) after
     turn-due due free e after w =
         let d : test_of which place ≡ true = rw place_is at due in
         let v = rw (place_is, append-nil) at w in
@@ -107,14 +116,14 @@ module _ {which : Test} {t : Table} {whole : List ℕ} {i n : ℕ} {next : Table
           inside = omega arith;
           few = omega arith;
           area = rw (w.stored, splice-length) s.area;
-          table = rw (s.table, done-turn (freed_by (test_of which)) i t.places no_place free here (e ∙ simp d));
+          places = rw (s.places, done-turn (freed_by (test_of which)) i ps no_place free here (e ∙ simp d));
           counted = omega (arith, ap length (left-due d));
           sized = omega (arith, v.place, simp length-append at (rw (left-due d) at s.sized));
           written = rw (v.stored, v.place, ← splice-append) (rw (left-due d) at s.written);
         }
 
-    -- a turn that leaves it
-    pub turn-left : test_of which (get_or next.places i no_place) ≡ false → Sofar which t whole (i + 1) n next report
+    -- a turn that leaves it, and puts it back as it was
+    pub turn-left : test_of which (get_or now i no_place) ≡ false → Sofar which ps whole (i + 1) n (set now i (get_or now i no_place)) report
     turn-left due =
         let d : test_of which place ≡ false = rw place_is at due in
         record {
@@ -122,28 +131,34 @@ module _ {which : Test} {t : Table} {whole : List ℕ} {i n : ℕ} {next : Table
           inside = omega arith;
           few = omega arith;
           area = s.area;
-          table = s.table ∙ rw (done-same (freed_by (test_of which)) i t.places no_place here (simp d));
+          places = set-get_or now i no_place ∙ s.places ∙ rw (done-same (freed_by (test_of which)) i ps no_place here (simp d));
           counted = rw (← left-kept d) s.counted;
           sized = rw (← left-kept d) s.sized;
           written = rw (← left-kept d) s.written;
         }
 
   module _ (h : place_count ≤ i) where
-    end : drop i t.places ≡ []
-    end = drop_of_length-le t.places {i = i} (omega arith)
+    end : drop i ps ≡ []
+    end = drop_of_length-le ps {i = i} (omega arith)
 
-    -- after the last turn
-    pub all-answered : (time : ℕ) → ◌≡◌ {A = Swept} (record { table = record { places = next.places; registry = next.registry; timer = next.timer; clock = time }; refusal = 0; records = n })
-        (swept_by which time t whole).answer
-    unfolding sweep losses
-    all-answered time =
-        let all : n ≡ length (losses which t.places) = omega (arith, rw end at s.counted) in
-        rw (all, s.table, done_all (freed_by (test_of which)) i t.places (omega arith))
+    pub all-counted : n ≡ length (losses which ps)
+    unfolding losses
+    all-counted = omega (arith, rw end at s.counted)
 
-    pub all-reported : (time : ℕ) → report ≡ (swept_by which time t whole).report
-    unfolding sweep losses
-    all-reported time = sym (splice-nil _ _) ∙ rw end at s.written
+    pub all-freed : now ≡ map (freed_by (test_of which)) ps
+    all-freed = s.places ∙ done_all (freed_by (test_of which)) i ps (omega arith)
 
-    pub all-sized : length (records_octets (losses which t.places)) ≡ record_length * n
+    pub all-reported : report ≡ splice whole 0 (records_octets (losses which ps))
+    unfolding losses
+    all-reported = sym (splice-nil _ _) ∙ rw end at s.written
+
+    pub all-sized : length (records_octets (losses which ps)) ≡ record_length * n
     unfolding losses
     all-sized = omega (arith, rw end at s.sized)
+
+-- after the last turn
+module _ {which : Test} (t : Table) {whole : List ℕ} {i n : ℕ} {now : List Place} {report : List ℕ} (s : Sofar which t.places whole i n now report) (h : place_count ≤ i) where
+  pub all-answered : (time : ℕ) → ◌≡◌ {A = Swept} (record { table = record { places = now; registry = t.registry; timer = t.timer; clock = time }; refusal = 0; records = n })
+      (swept_by which time t whole).answer
+  unfolding sweep losses
+  all-answered time = rw (all-counted s h, all-freed s h)

@@ -12,6 +12,7 @@ ghost use Rattle.receive_sweep.specs.Sweeping.{test_of, cause_of, losses, swept_
 use rules::{Place, Record, Swept, Table};
 
 // Which sequences a sweep loses: those too old at a time, or those of an association.
+// As it was: a closure in its place would go through five functions with its cause beside it, and each would promise by both.
 #[derive(Clone, Copy)]
 pub enum Test {
     Aged { time: u32, timer: u32 },
@@ -19,14 +20,14 @@ pub enum Test {
 }
 
 // Whether a sweep loses what a place holds.
-pub fn is_due(which: Test, p: Place) -> bool
-    ensures { result ≡ test_of which p }
+pub fn is_due(which: Test, p: &Place) -> bool
+    ensures { result ≡ test_of which p.now }
 {
-    let open = p.mark == 1;
-    match which {
-        Test::Aged { time, timer } => open & (timer <= table::elapsed(time, p.start)),
-        Test::Of(association) => open & (p.key.association == association),
-    }
+    p.mark == 1
+        && match which {
+            Test::Aged { time, timer } => timer <= table::elapsed(time, p.start),
+            Test::Of(association) => p.key.association == association,
+        }
 }
 
 // The cause that a sweep's records give.
@@ -34,14 +35,14 @@ fn cause(which: Test) -> u8
     ensures { result ≡ cause_of which }
 {
     match which {
-        Test::Aged { time: _, timer: _ } => 6,
+        Test::Aged { .. } => 6,
         Test::Of(_) => 7,
     }
 }
 
 // A sequence's loss.
-fn lost(p: Place, cause: u8) -> Record
-    ensures { result ≡ loss_of cause p }
+fn lost(p: &Place, cause: u8) -> Record
+    ensures { result ≡ loss_of cause p.now }
 {
     let key = p.key;
     Record {
@@ -55,12 +56,11 @@ fn lost(p: Place, cause: u8) -> Record
 }
 
 // Writes a place's loss after the n records before it.
-fn put_loss(report: &mut [u8], n: usize, which: Test, p: Place)
-    requires { n ≤ 16 }
-    ensures { Wrote report.old (record_length * n) (records_octets (loss_of (cause_of which) p ∷ [])) report.new (record_length * (n + 1)) }
+fn put_loss(report: &mut [u8], n: u8, which: Test, p: &Place)
+    ensures { Wrote report.old (record_length * n) (records_octets (loss_of (cause_of which) p.now ∷ [])) report.new (record_length * (n + 1)) }
 {
     let r = lost(p, cause(which));
-    receive_report::put_record(report, rules::RECORD * n, r);
+    receive_report::put_record(report, rules::RECORD * usize::from(n), r);
 }
 
 // Loses what is due of a table, in place order, and sets its clock. What is not due is not touched. All records have one length.
@@ -70,23 +70,19 @@ pub fn swept(t: Table, report: &mut [u8], time: u32, which: Test) -> Swept
     ensures records_le_place_count { (result.records ≤ place_count) × (length (records_octets (losses which t.places)) ≡ record_length * result.records) }
 {
     let mut next = t;
-    let mut n: usize = 0;
-    let mut i = 0;
-    while i < rules::PLACES {
-        let p = next.places[i];
+    let mut n = 0;
+    for p in &mut next.places {
         if is_due(which, p) {
             put_loss(report, n, which, p);
-            let free = table::free_place();
-            next.places[i] = free;
+            *p = table::free_place();
             n += 1;
         }
-        i += 1;
     }
     next.clock = time;
     Swept {
         table: next,
         refusal: 0,
-        records: n as u8,
+        records: n,
     }
 }
 
@@ -94,13 +90,5 @@ pub fn swept(t: Table, report: &mut [u8], time: u32, which: Test) -> Swept
 pub fn any_due(t: Table, which: Test) -> bool
     ensures { result ≡ is_at (first_from (test_of which) t.places 0) }
 {
-    let mut i = 0;
-    while i < rules::PLACES {
-        let p = t.places[i];
-        if is_due(which, p) {
-            return true;
-        }
-        i += 1;
-    }
-    false
+    t.places.iter().any(|p| is_due(which, p))
 }

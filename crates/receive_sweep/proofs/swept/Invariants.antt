@@ -1,9 +1,5 @@
-use Prim.Native.Nat.{◌-◌}
 use Rattle.receive_sweep.proofs.Sweeping.{Sofar}
 use Rattle.receive_sweep.proofs.swept.Given as goal
 
-abbrev pub invariant-loop-i : goal.invariant-loop-i
-invariant-loop-i l = Sofar l.which l.initial.next l.initial.report l.i l.n l.next l.report
-
-abbrev pub decreases-loop-i : goal.decreases-loop-i
-decreases-loop-i l = 16 - l.i
+abbrev pub invariant-loop-p : goal.invariant-loop-p
+invariant-loop-p l = Sofar l.which l.initial.p-items l.initial.report l.p-index l.n l.p-items l.report
