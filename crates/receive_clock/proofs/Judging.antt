@@ -1,10 +1,14 @@
 -- The clock and the release by the number that `judge` answers: both judge 1 and 3 first, and the totals last.
 use Rattle.std.specs.Prelude.{if◌then◌else◌}
-use Prim.Native.Nat.{ℕ, ◌^◌}
+use Prim.Native.Nat.{ℕ, ◌-◌, ◌<◌, ◌≤◌, ◌^◌}
+use Rattle.std.proofs.lemmas.Bool.{lt-ltb, le-ltb}
+use borrow.Author.Tests.{eq-eqb, ne_eqb}
+use Rattle.receive_sweep.specs.declared.Test.{Test}
+use native.Mathlib.Omega.{arith}
 use mathlib.Core.Path.{◌≡◌, refl, ◌∙◌}
 use mathlib.Core.Bool.{Bool, true, false, not, ◌&&◌}
 use mathlib.Core.List.{List, [], ◌∷◌, ◌++◌}
-use lib.Dec.{eqb, leb, ltb}
+use lib.Dec.{eqb, ltb}
 use lib.ListN.{length}
 use Rattle.rules.specs.Numbers.{elapsed}
 use Rattle.rules.specs.Refusals.{Check, ◌when◌, first, judged}
@@ -14,7 +18,7 @@ use Rattle.rules.specs.Summary.{Counted, counting, summary_sound, summary_checks
 use Rattle.rules.proofs.Refusals.{judged-append}
 use Rattle.rules.specs.declared.Table.{Table}
 use Rattle.receive_sweep.specs.Sweeping.{swept_by}
-use Rattle.receive_clock.specs.Clocking.{swept_with}
+use Rattle.receive_clock.specs.Clocking.{swept_at, swept_with}
 use Rattle.receive_sweep.specs.declared.Test.TheVariants.{Aged, Of}
 
 module _ (t : Table) (m report : List ℕ) {is_sound summed : Bool} (g : is_sound ≡ sound t) (h : summed ≡ summary_sound m t.places) {n : ℕ}
@@ -44,12 +48,30 @@ module _ (t : Table) (m report : List ℕ) {is_sound summed : Bool} (g : is_soun
       ∙ rw (judged-append (release_checks t report ++ own) (total_checks m (sweep_sums m o)) refused s, judged-append (release_checks t report) own refused (judged (total_checks m (sweep_sums m o)) refused s))
       (judged-by (judged own refused (judged (total_checks m (sweep_sums m o)) refused s)))
 
-  pub release-is : (association : ℕ) → release_with t m report association ≡ (if eqb n 0 then swept_with (Of association) t.clock t m report else refused n)
-  unfolding release_with release_checks
-  release-is association = then_by [] (swept_by (Of association) t.clock t report) _
+  -- its step is judged before its totals
+  pub swept-at : (which : Test) (time : ℕ) → swept_at which time t m report
+      ≡ (if eqb n 0 then judged (step_checks time t.clock) refused (swept_with which time t m report) else refused n)
+  unfolding swept_at release_checks
+  swept-at which time = then_by (step_checks time t.clock) (swept_by which time t report) _
 
-  -- the clock judges its step before the totals
-  pub clock-is : (time : ℕ) → clock_with t m report time
-      ≡ (if eqb n 0 then judged (13 when leb (2 ^ 31) (elapsed time t.clock) ∷ []) refused (swept_with (Aged time t.timer) time t m report) else refused n)
-  unfolding clock_with clock_checks release_checks
-  clock-is time = then_by (step_checks time t.clock) (swept_by (Aged time t.timer) time t report) _
+  pub misjudged : (n ≡ 0 → ⊥) → (which : Test) (time : ℕ) → swept_at which time t m report ≡ refused n
+  misjudged some which time = swept-at which time ∙ simp (ne_eqb n 0 some)
+
+  pub stepped-back : n ≡ 0 → (which : Test) (time : ℕ) → 2 ^ 31 ≤ elapsed time t.clock → swept_at which time t m report ≡ refused 13
+  stepped-back z which time over = swept-at which time ∙ simp (eq-eqb n 0 z, lt-ltb (2 ^ 31 - 1) (elapsed time t.clock) (omega arith))
+
+  pub goes-on : n ≡ 0 → (which : Test) (time : ℕ) → elapsed time t.clock < 2 ^ 31 → swept_at which time t m report ≡ swept_with which time t m report
+  goes-on z which time under = swept-at which time ∙ simp (eq-eqb n 0 z, le-ltb (2 ^ 31 - 1) (elapsed time t.clock) (omega arith))
+
+-- the clock is a sweep of what is too old; the release one of an association, at the table's own time
+pub clock-is : (t : Table) (m report : List ℕ) (time : ℕ) → clock_with t m report time ≡ swept_at (Aged time t.timer) time t m report
+unfolding clock_with clock_checks swept_at
+clock-is t m report time = refl
+
+no-step : (time : ℕ) → elapsed time time ≡ 0
+unfolding elapsed
+no-step time = omega arith
+
+pub release-is : (t : Table) (m report : List ℕ) (association : ℕ) → release_with t m report association ≡ swept_at (Of association) t.clock t m report
+unfolding release_with release_checks swept_at
+release-is t m report association = rw (no-step t.clock)

@@ -109,9 +109,14 @@ module _ (which : Test) (time : ℕ) (t : Table) (m report : List ℕ) where
       go true s = refl
       go false s = refl
 
-  pub none_is : is_at (first_from (test_of which) t.places 0) ≡ false
-      → swept_with which time t m report ≡ counting m (record { answer = passed_at time t; report = report; made = [] })
-  unfolding sweep
-  none_is e =
-      let none = none-those (test_of which) t.places 0 e in
-      rw (none.0, none.1, fits-same m, splice-nil)
+-- a sweep that loses nothing
+pub none-swept : (which : Test) (time : ℕ) (t : Table) (report : List ℕ) → is_at (first_from (test_of which) t.places 0) ≡ false
+    → swept_by which time t report ≡ record { answer = passed_at time t; report = report; made = [] }
+unfolding sweep
+none-swept which time t report e =
+    let none = none-those (test_of which) t.places 0 e in
+    rw (none.0, none.1, splice-nil)
+
+pub none_is : (which : Test) (time : ℕ) (t : Table) (m report : List ℕ) → is_at (first_from (test_of which) t.places 0) ≡ false
+    → swept_with which time t m report ≡ counting m (swept_by which time t report)
+none_is which time t m report e = rw (none-swept which time t report e, fits-same m)

@@ -4,20 +4,20 @@ use native.Mathlib.Omega.{arith}
 use Rattle.receive_clock.proofs.Losing.{turn-fails, turn-fits, all_fit, all-billed}
 use Rattle.receive_clock.proofs.billed.Goals as goal
 
-pub loop-i-init : goal.loop-i-init
-loop-i-init c = record { size = omega arith; inside = omega arith; long = c.numbers.ensures.1; sums = refl; fit = refl }
+pub loop-p-init : goal.loop-p-init
+loop-p-init c = record { size = omega arith; inside = omega arith; long = c.numbers.ensures.1; sums = refl; fit = refl }
 
 pub returns-then-not-bill_due : goal.returns-then-not-bill_due
 returns-then-not-bill_due c =
     let no = c.if-not-bill_due.true in
-    record { value = turn-fails c.loop-i.invariant c.loop-i-test.true (sym c.bill_due.ensures.value ∙ no); m_after = λ e. absurd (true≢false (sym e)) }
+    record { value = turn-fails c.loop-p.invariant c.loop-p-test.true (sym c.bill_due.ensures.value ∙ no); m_after = λ e. absurd (true≢false (sym e)) }
 
-pub loop-i-preserved : goal.loop-i-preserved
-loop-i-preserved c =
+pub loop-p-preserved : goal.loop-p-preserved
+loop-p-preserved c =
     let yes = c.if-not-bill_due.false in
-    turn-fits c.loop-i.invariant c.loop-i-test.true (sym c.bill_due.ensures.value ∙ yes) _ (c.bill_due.ensures.m_after yes)
+    turn-fits c.loop-p.invariant c.loop-p-test.true (sym c.bill_due.ensures.value ∙ yes) _ (c.bill_due.ensures.m_after yes)
 
 pub returns : goal.returns
 returns c =
-    let l = c.loop-i in
-    record { value = all_fit l.invariant c.loop-i-test.false; m_after = λ e. all-billed l.invariant c.loop-i-test.false }
+    let l = c.loop-p in
+    record { value = all_fit l.invariant c.loop-p-test.false; m_after = λ e. all-billed l.invariant c.loop-p-test.false }
