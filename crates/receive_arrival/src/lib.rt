@@ -2,6 +2,7 @@
 #![tactic(auto)]
 
 ghost use Rattle.std.specs.Prelude.{◌+◌, ◌≤◌, ◌≡◌, false, []};
+ghost use Rattle.refusals.specs.Numbers.{number_of, number_if};
 ghost use Rattle.rules.specs.Refusals.{first, unplaced};
 ghost use Rattle.rules.specs.Places.{first_from, is_at};
 ghost use Rattle.rules.specs.Receiving.{unreceived};
@@ -10,39 +11,40 @@ ghost use Rattle.receive_sweep.specs.Sweeping.{test_of};
 ghost use Rattle.receive_arrival.specs.Arriving.{area_checks, Allowed, beside_of};
 
 use receive_sweep::Test;
+use refusals::Refusal;
 use rules::{Decision, Received, Table};
 
 // The answer to an arrival that is refused as a whole: the table as it was.
-fn refused(t: Table, refusal: u8) -> Received
-    ensures { result ≡ (unreceived t [] [] (unplaced refusal)).answer }
+fn refused(t: &Table, r: Refusal) -> Received
+    ensures { result ≡ (unreceived t.now [] [] (unplaced (number_of r))).answer }
 {
     Received {
-        table: t,
+        table: *t,
         decision: Decision::Refused,
         position: rules::NOWHERE,
-        refusal,
+        refusal: u8::from(r),
         records: 0,
         timeouts: 0,
     }
 }
 
-// The first refusal, of the table with its summary, the lent areas or the step, that leaves everything as it was; 0 is none.
-fn judge(sound: bool, store: usize, report: usize, step: u32) -> u8
-    ensures { result ≡ first (area_checks sound store report step) }
+// Whether the table with its summary, the lent areas and the step will do; else the first refusal, which leaves everything as it was.
+fn judge(sound: bool, store: usize, report: usize, step: u32) -> Result<(), Refusal>
+    ensures { number_if result ≡ first (area_checks sound store report step) }
 {
     if !sound {
-        return 1;
+        return Err(Refusal::Unsound);
     }
     if store < rules::STORE {
-        return 2;
+        return Err(Refusal::StoreShort);
     }
     if report < rules::REPORT_ARRIVAL {
-        return 3;
+        return Err(Refusal::ReportShort);
     }
     if 2147483648 <= step {
-        return 13;
+        return Err(Refusal::StepBack);
     }
-    0
+    Ok(())
 }
 
 // The answer to a segment, with so many records of the clock's before its own.
@@ -50,15 +52,10 @@ fn beside(r: Received, timeouts: u8) -> Received
     requires { r.records + timeouts ≤ 255 }
     ensures { result ≡ beside_of r timeouts }
 {
-    let table = r.table;
-    let decision = r.decision;
     Received {
-        table,
-        decision,
-        position: r.position,
-        refusal: r.refusal,
         records: timeouts + r.records,
         timeouts,
+        ..r
     }
 }
 
@@ -76,11 +73,10 @@ fn pass(
     requires places_value { is_at (first_from (test_of (Test.Aged time t.timer)) t.places 0) ≡ false }
     ensures { OfArrival t m.old store.old report.old time association s.now result m.new store.new report.new }
 {
-    let mut next = t;
-    next.clock = time;
+    let next = Table { clock: time, ..t };
     let r = receive_segment::segment(next, true, true, m, store, report, association, s);
     if r.refusal == 22 {
-        return refused(t, r.refusal);
+        return refused(&t, Refusal::TotalLarge);
     }
     r
 }
@@ -103,19 +99,19 @@ fn lose(
     let which = Test::Aged { time, timer };
     let mut trial = *m;
     if !receive_clock::billed(t, which, &mut trial) {
-        return refused(t, 22);
+        return refused(&t, Refusal::TotalLarge);
     }
     let mut told = [0u8; rules::REPORT];
     let w = receive_sweep::swept(t, &mut told, time, which);
     let next = w.table;
-    let past = w.records as usize * rules::RECORD;
+    let past = usize::from(w.records) * rules::RECORD;
     let behind = &mut report[past..];
     let own = receive_segment::segment(next, true, true, &mut trial, store, behind, association, s);
     if own.refusal == 22 {
-        return refused(t, own.refusal);
+        return refused(&t, Refusal::TotalLarge);
     }
     *m = trial;
-    octets::put(report, octets::part(&told, 0, past));
+    octets::put(report, &told[..past]);
     beside(own, w.records)
 }
 
@@ -135,9 +131,8 @@ pub fn arrival(
     let is_sound = sound::is_sound(t, idle);
     let is_summed = sound::is_summed(t, m);
     let step = table::elapsed(time, t.clock);
-    let refusal = judge(is_sound & is_summed, store.len(), report.len(), step);
-    if refusal != 0 {
-        return refused(t, refusal);
+    if let Err(r) = judge(is_sound & is_summed, store.len(), report.len(), step) {
+        return refused(&t, r);
     }
     if time == t.clock {
         return receive_segment::segment(t, is_sound, is_summed, m, store, report, association, s);

@@ -1,15 +1,16 @@
 use Prim.Native.Nat.{ℕ}
-use mathlib.Core.Path.{refl, sym, ap, ◌∙◌}
+use mathlib.Core.Path.{refl, ap, ◌∙◌}
 use Rattle.rules.specs.Arrival.{arrival}
 use Rattle.rules.proofs.Arrival.{own-time}
 use Rattle.receive_arrival.proofs.Arriving.{arrives, refused-whole, allowed}
+use Rattle.refusals.proofs.Numbers.{number-some}
 use Rattle.receive_arrival.proofs.arrival.Goals as goal
 
-pub returns-then-refusal-ne0 : goal.returns-then-refusal-ne0
-returns-then-refusal-ne0 c =
+pub returns-in-Err : goal.returns-in-Err
+returns-in-Err c =
     let a = c.args in
     arrives a.t a.m.now a.store.now a.report.now a.time a.association a.s.now
-    (refused-whole a.t a.m.now a.store.now a.report.now a.time a.association a.s.now c.is_sound-is_sound.ensures c.is_summed-is_summed.ensures c.elapsed-step.ensures c.judge-refusal.ensures c.if-refusal-ne0.true)
+    (refused-whole a.t a.m.now a.store.now a.report.now a.time a.association a.s.now c.is_sound-is_sound.ensures c.is_summed-is_summed.ensures c.elapsed-step.ensures c.in-Err.ensures (number-some _))
     c.refused.ensures refl refl refl
 
 pub returns-then-time-t : goal.returns-then-time-t
@@ -17,18 +18,15 @@ returns-then-time-t c =
     let a = c.args in
     arrives a.t a.m.now a.store.now a.report.now a.time a.association a.s.now
     (ap (λ (n : ℕ). arrival a.t a.m.now a.store.now a.report.now n a.association a.s.now) c.if-time-t.true
-    ∙ own-time a.t a.m.now a.store.now a.report.now a.association a.s.now (allowed a.t a.m.now a.store.now a.report.now a.time a.association a.s.now c.is_sound-is_sound.ensures c.is_summed-is_summed.ensures c.elapsed-step.ensures c.judge-refusal.ensures c.if-refusal-ne0.false).reports)
+    ∙ own-time a.t a.m.now a.store.now a.report.now a.association a.s.now (allowed a.t a.m.now a.store.now a.report.now a.time a.association a.s.now c.is_sound-is_sound.ensures c.is_summed-is_summed.ensures c.elapsed-step.ensures c.in_default.ensures refl).reports)
     c.segment.ensures.answered c.segment.ensures.summed c.segment.ensures.stored c.segment.ensures.reported
 
 pub lose-requires : goal.lose-requires
 lose-requires c =
     let a = c.args in
-    allowed a.t a.m.now a.store.now a.report.now a.time a.association a.s.now c.is_sound-is_sound.ensures c.is_summed-is_summed.ensures c.elapsed-step.ensures c.judge-refusal.ensures c.if-refusal-ne0.false
+    allowed a.t a.m.now a.store.now a.report.now a.time a.association a.s.now c.is_sound-is_sound.ensures c.is_summed-is_summed.ensures c.elapsed-step.ensures c.in_default.ensures refl
 
-pub pass-requires : goal.pass-requires
-pass-requires c =
+pub pass-requires-clause-allowed : goal.pass-requires-clause-allowed
+pass-requires-clause-allowed c =
     let a = c.args in
-    record {
-      allowed = allowed a.t a.m.now a.store.now a.report.now a.time a.association a.s.now c.is_sound-is_sound.ensures c.is_summed-is_summed.ensures c.elapsed-step.ensures c.judge-refusal.ensures c.if-refusal-ne0.false;
-      places_value = sym c.any_due.ensures ∙ c.if-any_due.false;
-    }
+    allowed a.t a.m.now a.store.now a.report.now a.time a.association a.s.now c.is_sound-is_sound.ensures c.is_summed-is_summed.ensures c.elapsed-step.ensures c.in_default.ensures refl

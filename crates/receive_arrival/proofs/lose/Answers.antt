@@ -23,7 +23,7 @@ returns-then-own-eq22 c =
     let a = c.args in
     let fit = c.if-not-billed.false in
     let size : length a.t.places ≡ place_count = omega arith in
-    lost-22 a.t a.m.now a.store.now a.report.now a.time a.association a.s.now c.requires (sym c.billed.ensures.value ∙ fit) (c.billed.ensures.m_after fit) c.swept-w.ensures.value c.swept-w.ensures.report_after c.swept-w.ensures.records_le_place_count size c.segment-own.ensures c.if-own-eq22.true c.refused-then-own-eq22.ensures
+    rw c.from-past.ensures (lost-22 a.t a.m.now a.store.now a.report.now a.time a.association a.s.now c.requires (sym c.billed.ensures.value ∙ fit) (c.billed.ensures.m_after fit) c.swept-w.ensures.value c.swept-w.ensures.report_after c.swept-w.ensures.records_le_place_count size (rw c.from-past.ensures at c.segment-own.ensures) c.if-own-eq22.true (c.refused-then-own-eq22.ensures ∙ rw c.if-own-eq22.true))
 
 pub beside-requires : goal.beside-requires
 beside-requires c =
@@ -34,4 +34,4 @@ returns c =
     let a = c.args in
     let fit = c.if-not-billed.false in
     let size : length a.t.places ≡ place_count = omega arith in
-    lost-both a.t a.m.now a.store.now a.report.now a.time a.association a.s.now c.requires (sym c.billed.ensures.value ∙ fit) (c.billed.ensures.m_after fit) c.swept-w.ensures.value c.swept-w.ensures.report_after c.swept-w.ensures.records_le_place_count size c.segment-own.ensures c.if-own-eq22.false c.beside.ensures (c.put.ensures ∙ rw c.part.ensures)
+    lost-both a.t a.m.now a.store.now a.report.now a.time a.association a.s.now c.requires (sym c.billed.ensures.value ∙ fit) (c.billed.ensures.m_after fit) c.swept-w.ensures.value c.swept-w.ensures.report_after c.swept-w.ensures.records_le_place_count size (rw c.from-past.ensures at c.segment-own.ensures) c.if-own-eq22.false c.beside.ensures (rw c.from-past.ensures at c.put.ensures)

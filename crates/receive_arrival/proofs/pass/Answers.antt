@@ -1,4 +1,4 @@
-use mathlib.Core.Path.{◌≡◌}
+use mathlib.Core.Path.{◌≡◌, ◌∙◌}
 use lib.ListN.{length}
 use native.Mathlib.Omega.{arith}
 use Rattle.rules.specs.Numbers.{place_count}
@@ -20,7 +20,7 @@ returns-then-r-eq22 c =
     let a = c.args in
     let none = (none-those (is_due a.time a.t.timer) a.t.places 0 c.requires.places_value).0 in
     let size : length a.t.places ≡ place_count = omega arith in
-    passes-22 a.t a.m.now a.store.now a.report.now a.time a.association a.s.now c.requires.allowed none size c.segment-r.ensures c.if-r-eq22.true c.refused.ensures
+    passes-22 a.t a.m.now a.store.now a.report.now a.time a.association a.s.now c.requires.allowed none size c.segment-r.ensures c.if-r-eq22.true (c.refused.ensures ∙ rw c.if-r-eq22.true)
 
 pub returns : goal.returns
 returns c =
