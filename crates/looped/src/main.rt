@@ -2,11 +2,11 @@
 #![tactic(auto)]
 
 use rules::{Context, Reference, Request, Table};
+use streams::Told;
 
 // Context 3 of 1998; T 100.
 fn fresh(m: &mut [u64; rules::SUMMARY]) -> Table {
-    let r = opening::opening(m, b"\x01\x00\x03", 100, 0);
-    r.table
+    opening::opening(m, b"\x01\x00\x03", 100, 0).table
 }
 
 // Rooms of 209 octets: 2,048 octets take ten segments.
@@ -21,25 +21,23 @@ fn asked() -> Request {
     }
 }
 
-// Prints, and answers whether that went well; where not, that is told.
-fn print(rt: &HostRuntime, octets: &[u8]) -> bool {
+// Prints. Where that fails, it is told.
+fn print(rt: &HostRuntime, octets: &[u8]) -> Result<(), Told> {
     streams::write(rt, &mut rt.stdout(), b"looped: cannot write", octets)
 }
 
-fn refused(rt: &HostRuntime, number: u8) {
-    let mut text = [0u8; 20];
-    let n = io::decimal(number as u64, &mut text);
-    if print(rt, b"refused ") && print(rt, &text[..n]) {
-        print(rt, b"\n");
-    }
+fn refused(rt: &HostRuntime, number: u8) -> Result<(), Told> {
+    print(rt, b"refused ")?;
+    print(rt, itoa::Buffer::new().format(number).as_bytes())?;
+    print(rt, b"\n")
 }
 
-fn looped(rt: &HostRuntime, data: &[u8]) {
-    let mut summary = [0u64; rules::SUMMARY];
+fn looped(rt: &HostRuntime, data: &[u8]) -> Result<(), Told> {
+    let mut summary = [0; rules::SUMMARY];
     let table = fresh(&mut summary);
-    let mut area = [0u8; 255];
-    let mut store = [0u8; rules::STORE];
-    let mut report = [0u8; rules::REPORT_ARRIVAL];
+    let mut area = [0; 255];
+    let mut store = [0; rules::STORE];
+    let mut report = [0; rules::REPORT_ARRIVAL];
     let r = loopback::loopback(
         table,
         &mut summary,
@@ -53,22 +51,23 @@ fn looped(rt: &HostRuntime, data: &[u8]) {
         &mut report,
     );
     if r.number != 0 {
-        refused(rt, r.number);
-        return;
+        return refused(rt, r.number);
     }
-    let decision = r.decision;
-    let last = octets::part(&area, 0, r.length as usize);
-    print(rt, receiver::delivery(decision, last, &store));
+    let last = octets::part(&area, 0, usize::from(r.length));
+    print(rt, receiver::delivery(r.decision, last, &store))
+}
+
+// Reads all there is, and loops it.
+fn run(rt: &HostRuntime) -> Result<(), Told> {
+    let mut data = [0; 2049];
+    let n = streams::fill(rt, &mut rt.stdin(), b"looped: cannot read", &mut data)?;
+    looped(rt, &data[..n])
 }
 
 fn main(rt: HostRuntime) {
     if streams::misused(&rt, streams::words(&rt), b"usage: looped < DATA\n") {
         return;
     }
-    let mut data = [0u8; 2049];
-    let got = streams::fill(&rt, &mut rt.stdin(), b"looped: cannot read", &mut data);
-    if got.failed {
-        return;
-    }
-    looped(&rt, octets::part(&data, 0, got.count));
+    // what failed was told
+    let _ = run(&rt);
 }

@@ -3,22 +3,12 @@
 
 use trace::Watcher;
 
-// Whether there was an argument. A trace that is named and not read must not pass for an empty one.
-fn misused(rt: &HostRuntime) -> bool {
-    streams::misused(
-        rt,
-        streams::words(rt),
-        b"usage: replay < TRACE\nA trace in octets on standard input; its lines on standard output. See egrynnol(1).\n",
-    )
-}
-
 fn main(rt: HostRuntime) {
-    if misused(&rt) {
-        return;
-    }
-    trace_session::run(
+    trace_session::program(
         &rt,
+        streams::words(&rt),
         Watcher::Lines,
+        b"usage: replay < TRACE\nA trace in octets on standard input; its lines on standard output. See egrynnol(1).\n",
         b"replay: cannot read",
         b"replay: cannot write",
     );

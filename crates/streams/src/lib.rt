@@ -4,9 +4,9 @@
 // Each function tells a failure itself. `what` is how the line begins, as 'replay: cannot read'.
 #![tactic(auto)]
 
-ghost use Rattle.std.specs.Prelude.{◌+◌, ◌≤◌, ◌≡◌, true, false, ltb, length};
-ghost use Rattle.std.specs.Counts.{IsPrefixLen};
+ghost use Rattle.std.specs.Prelude.{◌≡◌, ℕ, ◌<◌, ◌≤◌, IfOk, IsOk, OnErr, OnOk, ltb, length, take, drop};
 ghost use Rattle.std.specs.Io.{ReadsAtMost, WritesAtMost};
+ghost use Rattle.std.specs.Io.KnownBytes.{Appends, Consumes, IsAtEnd, Keeps, ReadConsumes, WriteAppends};
 
 use std::env::{Env, FillError};
 use std::io::{self, ErrorKind, Read, Write};
@@ -14,29 +14,20 @@ use std::io::{self, ErrorKind, Read, Write};
 // How often a call that was interrupted is made again: every loop has to have a number that falls. After so many the interruption is told, as the failure that it is.
 const TRIES: u64 = 1000;
 
-// So many octets were read. None, and not failed: the input has ended.
-#[derive(Clone, Copy)]
-pub struct Got {
-    pub count: usize,
-    pub failed: bool,
-}
-
-// Whether a call failed because a signal interrupted it.
-fn is_interrupted(r: &io::Result<usize>) -> bool {
-    match r {
-        Ok(_) => false,
-        Err(e) => e.kind() == ErrorKind::Interrupted,
-    }
-}
+// A failure, which was told on standard error.
+#[derive(Clone, Copy, Drop)]
+pub struct Told;
 
 // One read.
+// As it was: one function for this and write_once would take a closure, and its contract would have to follow the closure's states through a chain of interrupted calls, which is longer than the loop.
 fn read_once<R: Read>(source: &mut R, area: &mut [u8]) -> io::Result<usize>
-    ensures { ReadsAtMost result area.new }
+    ensures bound { ReadsAtMost result area.new }
+    ensures bytes { ReadConsumes (R.remaining source.old) (R.remaining source.new) result area.new }
 {
     for _ in 0..TRIES {
-        let got = source.read(area);
-        if !is_interrupted(&got) {
-            return got;
+        match source.read(area) {
+            Err(e) if e.kind() == ErrorKind::Interrupted => {}
+            got => return got,
         }
     }
     source.read(area)
@@ -44,141 +35,116 @@ fn read_once<R: Read>(source: &mut R, area: &mut [u8]) -> io::Result<usize>
 
 // One write.
 fn write_once<W: Write>(sink: &mut W, octets: &[u8]) -> io::Result<usize>
-    ensures { WritesAtMost result octets.now }
+    ensures bound { WritesAtMost result octets.now }
+    ensures bytes { WriteAppends (W.contents sink.old) (W.contents sink.new) result octets.now }
 {
     for _ in 0..TRIES {
-        let put = sink.write(octets);
-        if !is_interrupted(&put) {
-            return put;
+        match sink.write(octets) {
+            Err(e) if e.kind() == ErrorKind::Interrupted => {}
+            put => return put,
         }
     }
     sink.write(octets)
 }
 
 // Puts octets on standard error. Where that fails too, there is nowhere to tell it.
-fn say(rt: &HostRuntime, octets: &[u8]) -> bool {
-    let mut sink = rt.stderr();
-    sink.write_all(octets).is_ok()
+fn say(rt: &HostRuntime, octets: &[u8]) {
+    let _ = rt.stderr().write_all(octets);
 }
 
 // The system's own words of a failure, without the number that std puts behind them.
 fn words_of(text: &str) -> &str {
-    match text.find(" (os error ") {
-        Some(n) => &text[..n],
+    match text.split_once(" (os error ") {
+        Some((words, _)) => words,
         None => text,
     }
 }
 
 // A failure and its reason, on standard error.
-fn fail(rt: &HostRuntime, what: &[u8], e: io::Error) {
+fn fail(rt: &HostRuntime, what: &[u8], e: io::Error) -> Told {
     say(rt, what);
-    match format!(in rt.alloc(); "{e}") {
-        Ok(text) => {
-            say(rt, b": ");
-            say(rt, words_of(text.as_str()).as_bytes());
-        }
-        Err(_) => {}
+    if let Ok(text) = format!(in rt.alloc(); "{e}") {
+        say(rt, b": ");
+        say(rt, words_of(text.as_str()).as_bytes());
     }
     say(rt, b"\n");
+    Told
 }
 
-// Reads once, to the start of an area that is not empty. Where that fails, it is told, and nothing was read.
-pub fn read<R: Read>(rt: &HostRuntime, source: &mut R, what: &[u8], area: &mut [u8]) -> Got
-    ensures prefix_len { IsPrefixLen result.count area.new }
-    ensures count_value { result.failed ≡ true → result.count ≡ 0 }
-{
-    match read_once(source, area) {
-        Err(e) => {
-            fail(rt, what, e);
-            Got {
-                count: 0,
-                failed: true,
-            }
-        }
-        Ok(count) => Got {
-            count,
-            failed: false,
-        },
-    }
-}
-
-// Reads once, past the octets that an area has already.
-fn read_past<R: Read>(
+// Reads once, to the start of an area that is not empty. Where that fails, it is told, and nothing was read. Nothing read, and not failed: the input has ended.
+pub fn read<R: Read>(
     rt: &HostRuntime,
     source: &mut R,
     what: &[u8],
     area: &mut [u8],
-    have: usize,
-) -> Got
-    requires { have ≤ length area.old }
-    ensures { have + result.count ≤ length area.old }
+) -> Result<usize, Told>
+    ensures prefix_len { ReadsAtMost result area.new }
+    ensures bytes { ReadConsumes (R.remaining source.old) (R.remaining source.new) result area.new }
 {
-    read(rt, source, what, &mut area[have..])
+    read_once(source, area).map_err(|e| fail(rt, what, e))
 }
 
-// Reads until the area is full or the input ends. Where a read fails, it is told, and what was read before it is counted.
-pub fn fill<R: Read>(rt: &HostRuntime, source: &mut R, what: &[u8], area: &mut [u8]) -> Got
-    ensures prefix_len { IsPrefixLen result.count area.new }
-    ensures failed_value { result.count ≡ length area.new → result.failed ≡ false }
+// Reads until the area is full or the input ends. Where a read fails, it is told; what was read before it stands at the start of the area, which is not full.
+pub fn fill<R: Read>(
+    rt: &HostRuntime,
+    source: &mut R,
+    what: &[u8],
+    area: &mut [u8],
+) -> Result<usize, Told>
+    ensures prefix_len { ReadsAtMost result area.new }
+    ensures bytes { IfOk result (λ n. Consumes (R.remaining source.old) (R.remaining source.new) (take n area.new)) }
+    ensures ended { IfOk result (λ n. n < length area.new → IsAtEnd (R.remaining source.new)) }
+    ensures failed { OnErr result ((n : ℕ) × (n < length area.new) × Consumes (R.remaining source.old) (R.remaining source.new) (take n area.new)) }
 {
     let mut done = 0;
     while done < area.len() {
-        let more = read_past(rt, source, what, area, done);
-        let n = more.count;
+        let n = read(rt, source, what, &mut area[done..])?;
         if n == 0 {
-            return Got {
-                count: done,
-                failed: more.failed,
-            };
+            return Ok(done);
         }
         done += n;
     }
-    Got {
-        count: done,
-        failed: false,
-    }
+    Ok(done)
 }
 
-// Writes once, of the octets that are past those that went out already, and answers how many went out. Where none did, it is told.
-// An answer of 0 is no error of the system's.
-fn write_past<W: Write>(
+// Writes once, and answers how many octets went out. Where none did, it is told: an answer of 0 is no error of the system's.
+fn write_some<W: Write>(
     rt: &HostRuntime,
     sink: &mut W,
     what: &[u8],
     octets: &[u8],
-    done: usize,
-) -> usize
-    requires { done ≤ length octets.now }
-    ensures { done + result ≤ length octets.now }
+) -> Result<usize, Told>
+    ensures bound { IfOk result (λ n. (0 < n) × (n ≤ length octets.now)) }
+    ensures bytes { WriteAppends (W.contents sink.old) (W.contents sink.new) result octets.now }
 {
-    match write_once(sink, &octets[done..]) {
-        Err(e) => {
-            fail(rt, what, e);
-            0
+    match write_once(sink, octets) {
+        Err(e) => Err(fail(rt, what, e)),
+        Ok(0) => {
+            say(rt, what);
+            say(rt, b": nothing was taken\n");
+            Err(Told)
         }
-        Ok(n) => {
-            if n == 0 {
-                say(rt, what);
-                say(rt, b": nothing was taken\n");
-            }
-            n
-        }
+        Ok(n) => Ok(n),
     }
 }
 
-// Writes all the octets, part by part, and answers whether all went out. Where they did not, it is told.
-pub fn write<W: Write>(rt: &HostRuntime, sink: &mut W, what: &[u8], octets: &[u8]) -> bool
-    ensures { length octets.now ≡ 0 → result ≡ true }
+// Writes all the octets, part by part. Where they did not all go out, it is told.
+pub fn write<W: Write>(
+    rt: &HostRuntime,
+    sink: &mut W,
+    what: &[u8],
+    octets: &[u8],
+) -> Result<(), Told>
+    ensures nothing { length octets.now ≡ 0 → IsOk result }
+    ensures bytes { OnOk result (Appends (W.contents sink.old) (W.contents sink.new) octets.now) }
+    ensures failed { OnErr result ((n : ℕ) × (n < length octets.now) × Appends (W.contents sink.old) (W.contents sink.new) (take n octets.now)) }
 {
-    let mut done = 0;
-    while done < octets.len() {
-        let n = write_past(rt, sink, what, octets, done);
-        if n == 0 {
-            return false;
-        }
-        done += n;
+    let mut rest = octets;
+    while !rest.is_empty() {
+        let n = write_some(rt, sink, what, rest)?;
+        rest = &rest[n..];
     }
-    true
+    Ok(())
 }
 
 // With how many words a program was started, its own name among them, as far as it has to know: one, or more.

@@ -1,197 +1,151 @@
 // A trace from standard input, watched block by block to standard output. What is read and what is printed of it is trace's; this reads, writes and keeps count.
 #![tactic(auto)]
 
-ghost use Rattle.std.specs.Prelude.{◌≡◌, ◌-◌, ◌≤◌, length, take, drop};
-ghost use Rattle.octets.specs.Splice.{splice};
+ghost use Rattle.std.specs.Prelude.{◌<◌, ◌≤◌, ◌↔◌, IsNone};
 
-use trace::{Progress, Watcher};
+use streams::Told;
+use trace::Watcher;
 use trace_events::Replay;
 
-// A replay and the number of its last event, with so many octets read and not yet used, and whether it goes on.
+// How many octets are read ahead at most; and there is so much room for what is printed of them.
+const ROOM: usize = 65536;
+
+// A replay and the number of its last event, with so many octets read and not yet used.
 #[derive(Clone, Copy)]
 pub struct Session {
     pub replay: Replay,
     pub events: u64,
     pub have: usize,
-    pub going: bool,
+    ghost room: { have ≤ 65536 },
 }
 
-fn over(replay: Replay) -> Session
-    ensures { result.have ≤ 0 }
-{
-    Session {
-        replay,
-        events: 0,
-        have: 0,
-        going: false,
+// What is lent to the calls, what is read and what is printed.
+#[derive(Drop)]
+struct Areas {
+    summary: [u64; rules::SUMMARY],
+    store: [u8; rules::STORE],
+    report: [u8; rules::REPORT_ARRIVAL],
+    input: [u8; ROOM],
+    out: [u8; ROOM],
+}
+
+// Why a session does not go on: the input has ended, or the trace stopped, or reading or writing failed, which was told.
+#[derive(Clone, Copy, Drop)]
+struct Over;
+
+impl From<Told> for Over {
+    fn from(_told: Told) -> Over {
+        Over
     }
 }
 
-// Prints the first n octets of an area, and answers whether that went well; where not, that is told.
-fn print(rt: &HostRuntime, unwritten: &[u8], out: &[u8], n: usize) -> bool
-    requires { n ≤ length out.now }
-{
-    streams::write(rt, &mut rt.stdout(), unwritten, &out[..n])
-}
-
-// The octets from an index to another move to the front.
-fn forward(input: &mut [u8], from: usize, to: usize) -> usize
-    requires { (from ≤ to) × (to ≤ length input.old) }
-    ensures value { result ≡ to - from }
-    ensures input_after { input.new ≡ splice input.old 0 (take (to - from) (drop from input.old)) }
-{
-    let n = to - from;
-    let mut i = 0;
-    while i < n {
-        input[i] = input[from + i];
-        i += 1;
-    }
-    n
-}
-
-// Reads more, past the octets that wait for the rest of their record. Where the input has ended, so does the replay.
-// Where reading failed, which is told, it ends too, with no 'stop': that line says what was found in the trace, and nothing was.
-fn refill(
-    rt: &HostRuntime,
+// Who watches, and how the lines begin that tell of a failure, as 'replay: cannot read'.
+#[derive(Clone, Copy)]
+struct Job<'a> {
+    rt: &'a HostRuntime,
     which: Watcher,
-    unread: &[u8],
-    unwritten: &[u8],
-    replay: Replay,
-    events: u64,
-    m: &[u64; rules::SUMMARY],
-    input: &mut [u8],
-    have: usize,
-    out: &mut [u8],
-) -> Session
-    requires { (have ≤ length input.old) × (16384 ≤ length out.old) }
-    ensures { result.have ≤ length input.old }
-{
-    let got = streams::read(rt, &mut rt.stdin(), unread, &mut input[have..]);
-    if got.failed {
-        return over(replay);
-    }
-    let n = got.count;
-    if n == 0 {
-        let last = trace::ending(which, replay, m, have, out);
-        print(rt, unwritten, out, last);
-        return over(replay);
-    }
-    Session {
-        replay,
-        events,
-        have: have + n,
-        going: true,
-    }
+    unread: &'a [u8],
+    unwritten: &'a [u8],
 }
 
-// After a block: its lines are printed, and what is left moves to the front. Where nothing was used, that is no whole record, and more is read.
-fn go_on(
-    rt: &HostRuntime,
-    which: Watcher,
-    unread: &[u8],
-    unwritten: &[u8],
-    t: Progress,
-    m: &[u64; rules::SUMMARY],
-    input: &mut [u8],
-    have: usize,
-    out: &mut [u8],
-) -> Session
-    requires { (t.used ≤ have) × (have ≤ length input.old) × (t.written ≤ length out.old) × (16384 ≤ length out.old) }
-    ensures { result.have ≤ length input.old }
-{
-    let replay = t.replay;
-    let used = t.used;
-    let events = t.events;
-    let going = print(rt, unwritten, out, t.written) & !t.ended;
-    if !going {
-        return over(replay);
+impl Job<'_> {
+    // Prints. Where that fails, it is told.
+    fn print(self, out: &[u8]) -> Result<(), Told> {
+        streams::write(self.rt, &mut self.rt.stdout(), self.unwritten, out)
     }
-    let left = forward(input, used, have);
-    if used == 0 {
-        return refill(
-            rt, which, unread, unwritten, replay, events, m, input, left, out,
+
+    // Reads more, past the octets that wait for the rest of their record. Where the input has ended, so does the replay.
+    // Where reading failed, it ends too, with no 'stop': that line says what was found in the trace, and nothing was.
+    fn refill(self, s: &mut Session, areas: &mut Areas) -> Result<(), Over> {
+        let have = s.have;
+        let n = streams::read(
+            self.rt,
+            &mut self.rt.stdin(),
+            self.unread,
+            &mut areas.input[have..],
+        )?;
+        if n == 0 {
+            let end = trace::ending(self.which, s.replay, &areas.summary, have, &mut areas.out);
+            self.print(&areas.out[..end])?;
+            return Err(Over);
+        }
+        s.have += n;
+        Ok(())
+    }
+
+    // A block of the octets that are there: its lines are printed, and what is left moves to the front. Where nothing was used, that is no whole record, and more is read.
+    fn step(self, s: &mut Session, areas: &mut Areas) -> Result<(), Over> {
+        let have = s.have;
+        let t = trace::block(
+            self.which,
+            s.events,
+            s.replay,
+            &mut areas.summary,
+            &mut areas.store,
+            &mut areas.report,
+            &areas.input[..have],
+            &mut areas.out,
         );
-    }
-    Session {
-        replay,
-        events,
-        have: left,
-        going: true,
-    }
-}
-
-// A block of the octets that are there.
-fn step(
-    rt: &HostRuntime,
-    which: Watcher,
-    unread: &[u8],
-    unwritten: &[u8],
-    s: Session,
-    m: &mut [u64; rules::SUMMARY],
-    store: &mut [u8],
-    report: &mut [u8],
-    input: &mut [u8],
-    out: &mut [u8],
-) -> Session
-    requires { (s.have ≤ length input.old) × (16384 ≤ length out.old) }
-    ensures { result.have ≤ length input.old }
-{
-    let have = s.have;
-    let replay = s.replay;
-    let t = trace::block(
-        which,
-        s.events,
-        replay,
-        m,
-        store,
-        report,
-        &input[..have],
-        out,
-    );
-    go_on(rt, which, unread, unwritten, t, m, input, have, out)
-}
-
-fn beginning() -> Session
-    ensures { result.have ≤ 0 }
-{
-    let replay = trace_turns::beginning();
-    Session {
-        replay,
-        events: 0,
-        have: 0,
-        going: true,
+        self.print(&areas.out[..t.written])?;
+        if t.ended {
+            return Err(Over);
+        }
+        areas.input.copy_within(t.used..have, 0);
+        s.replay = t.replay;
+        s.events = t.events;
+        s.have -= t.used;
+        if t.used == 0 {
+            return self.refill(s, areas);
+        }
+        Ok(())
     }
 }
 
-// All of it: the session as it ended. unread and unwritten are how the lines begin that tell of a failure, as 'replay: cannot read'.
+// All of it: the session as it ended. unread and unwritten are how the lines begin that tell of a failure.
 pub fn run(rt: &HostRuntime, which: Watcher, unread: &[u8], unwritten: &[u8]) -> Session
     ensures { result.have ≤ 65536 }
 {
-    let mut summary = [0u64; rules::SUMMARY];
-    let mut store = [0u8; rules::STORE];
-    let mut report = [0u8; rules::REPORT_ARRIVAL];
-    let mut input = [0u8; 65536];
-    let mut out = [0u8; 65536];
-    let mut s = beginning();
+    let job = Job {
+        rt,
+        which,
+        unread,
+        unwritten,
+    };
+    let mut areas = Areas {
+        summary: [0; rules::SUMMARY],
+        store: [0; rules::STORE],
+        report: [0; rules::REPORT_ARRIVAL],
+        input: [0; ROOM],
+        out: [0; ROOM],
+    };
+    let mut s = Session {
+        replay: trace_turns::beginning(),
+        events: 0,
+        have: 0,
+    };
     // every loop has to have a number that falls: 2^64 blocks are more than any input has
-    let mut turns = u64::MAX;
-    while turns > 0 {
-        s = step(
-            rt,
-            which,
-            unread,
-            unwritten,
-            s,
-            &mut summary,
-            &mut store,
-            &mut report,
-            &mut input,
-            &mut out,
-        );
-        if !s.going {
-            return s;
+    for _ in 0..u64::MAX {
+        if job.step(&mut s, &mut areas).is_err() {
+            break;
         }
-        turns -= 1;
     }
     s
+}
+
+// The program of a watcher, which was started with so many words, its own name among them. Where it was given an argument it tells how it is used, and reads nothing: a trace that is named and not
+// read must not pass for an empty one.
+pub fn program(
+    rt: &HostRuntime,
+    words: usize,
+    which: Watcher,
+    usage: &[u8],
+    unread: &[u8],
+    unwritten: &[u8],
+) -> Option<Session>
+    ensures { IsNone result ↔ (1 < words) }
+{
+    if streams::misused(rt, words, usage) {
+        return None;
+    }
+    Some(run(rt, which, unread, unwritten))
 }
