@@ -11,38 +11,28 @@ use rules::{Decision, Part};
 fn part_of(s: &[u8], start: usize, n: usize) -> &[u8]
     ensures { result.now ≡ part_of s.now start n }
 {
-    if s.len() < start {
-        return &s[..0];
-    }
-    if s.len() - start < n {
-        return &s[..0];
-    }
-    let end = start + n;
-    &s[start..end]
+    s.get(start..).and_then(|rest| rest.get(..n)).unwrap_or(&[])
 }
 
 // So many octets from the start of a place's stretch of the store, or none where they are not all inside it.
 fn part_of_place(store: &[u8], place: usize, n: usize) -> &[u8]
     ensures { result.now ≡ part_of_place store.now place n }
 {
-    let inside = (place < rules::PLACES) & (n <= rules::STRETCH);
-    if inside {
-        return part_of(store, rules::STRETCH * place, n);
+    if place < rules::PLACES && n <= rules::STRETCH {
+        part_of(store, rules::STRETCH * place, n)
+    } else {
+        &[]
     }
-    &store[..0]
 }
 
 // What was delivered: a part of the parameter or a part of the store, according to the decision.
+#[tactic(auto, unfolding(rules::specs::Delivery::delivery))]
 pub fn delivery<'a>(decision: Decision, s: &'a [u8], store: &'a [u8]) -> &'a [u8]
     ensures { OfDelivery decision s.now store.now result.now }
 {
     match decision {
-        Decision::Delivered(part) => match part {
-            Part::OfParameter { start, length } => part_of(s, start, length),
-            Part::OfStore { place, length } => part_of_place(store, place, length),
-        },
-        Decision::Refused => &s[..0],
-        Decision::Saved(_) => &s[..0],
-        Decision::Lost(_, _) => &s[..0],
+        Decision::Delivered(Part::OfParameter { start, length }) => part_of(s, start, length),
+        Decision::Delivered(Part::OfStore { place, length }) => part_of_place(store, place, length),
+        Decision::Refused | Decision::Saved(_) | Decision::Lost(_, _) => &[],
     }
 }
