@@ -1,17 +1,40 @@
--- What a search passes by does not hold the key; and two searches of eight places are one of all.
-use Rattle.std.specs.Prelude.{Option, Some, None}
-use Rattle.std.proofs.Common.{if◌then◌else◌, ◌≡◌, ℕ, ◌+◌, ◌<◌, Bool, true, false, ◌&&◌, eqb, List, length, get_or, drop, sym, refl, ap, ◌∙◌, arith, drop_of_length-le, eq-eqb, ne_eqb}
-use mathlib.Core.Bool.{and-false}
-use Rattle.rules.specs.Numbers.{place_count}
-use Rattle.rules.specs.Places.{same_octets, same_address, same_key, is_open, is_free, holds, no_place, first_from, place_of, lowest_free, found_at}
+-- What a search passes by does not hold the key.
+use Rattle.std.specs.Prelude.{if◌then◌else◌, Option, Some, None, unwrap_or, is_some}
+use Rattle.std.proofs.Common.{◌≡◌, ℕ, suc, ◌+◌, ◌<◌, Bool, true, false, true≢false, ◌&&◌, eqb, List, [], ◌∷◌, length, sym, refl, ◌∙◌, arith}
+use mathlib.Core.Bool.{and-true, and-false, and_comm}
+use Rattle.rules.specs.Places.{same_octets, same_address, same_key, is_open, holds, first_from}
 use Rattle.rules.specs.declared.Key.{Key}
 use Rattle.rules.specs.declared.Place.{Place}
-use Rattle.rules.proofs.Lists.{left}
-use Rattle.table.specs.Seeking.{same_addresses, sooner_of, before-or, Seeks}
-use Rattle.table.specs.declared.Sought.{Sought}
+use Rattle.table.specs.Seeking.{same_addresses, Points}
 
--- what is compared where it stands: mark, numbers and lengths
-abbrev alike : Place → Key → Bool
+-- the order in which fields are compared does not matter
+in_order : (a c x u y v r : Bool) → (a && (c && ((x && u) && ((y && v) && r)))) ≡ (a && c && r && (u && x) && (v && y))
+in_order false c x u y v r = refl
+in_order true false x u y v r = refl
+in_order true true x u y v true = rw (and-true (y && v), and_comm x u, and_comm y v)
+in_order true true x u y v false = rw (and-false (y && v)) (and-false (x && u))
+
+pub key_by_fields : (a b : Key) (r : Bool)
+    → r
+    ≡ (eqb a.association b.association
+    && (eqb a.context.0 b.context.0
+    && ((same_octets a.origin.octets b.origin.octets && eqb a.origin.length b.origin.length)
+    && ((same_octets a.destination.octets b.destination.octets && eqb a.destination.length b.destination.length) && eqb a.reference.0 b.reference.0))))
+    → r ≡ same_key a b
+unfolding same_key same_address
+key_by_fields a b r e =
+    e
+    ∙ in_order
+    (eqb a.association b.association)
+    (eqb a.context.0 b.context.0)
+    (same_octets a.origin.octets b.origin.octets)
+    (eqb a.origin.length b.origin.length)
+    (same_octets a.destination.octets b.destination.octets)
+    (eqb a.destination.length b.destination.length)
+    (eqb a.reference.0 b.reference.0)
+
+-- what is compared first: mark, numbers and lengths
+abbrev pub alike : Place → Key → Bool
 alike p k =
     ((((is_open p && eqb p.key.association k.association) && eqb p.key.context.0 k.context.0) && eqb p.key.reference.0 k.reference.0)
     && eqb p.key.origin.length k.origin.length)
@@ -40,44 +63,26 @@ module _ (p : Place) (k : Key) where
       go true true true true true false u v = and-false u
       go true true true true true true u v = refl
 
-  -- where these differ a place does not hold the key, whatever its octets; where they agree the octets decide
-  pub unlike : alike p k ≡ false → holds k p ≡ false
-  unlike e = apart ∙ rw e
+  -- where these agree the octets decide; where they differ a place does not hold the key, whatever its octets
+  pub decided : (b : Bool) → alike p k ≡ true → b ≡ same_addresses p.key k → b ≡ holds k p
+  decided b e f = f ∙ sym (apart ∙ rw e)
 
-  pub decided : (b : Bool) → b ≡ same_addresses p.key k → (d : Bool) → b ≡ d → alike p k ≡ true → holds k p ≡ d
-  decided b e d f g = apart ∙ rw g (sym e ∙ f)
+  pub unlike : alike p k ≡ false → alike p k ≡ holds k p
+  unlike e = e ∙ sym (apart ∙ rw e)
 
-module _ (f : Place → Bool) (l : List Place) (w : Option ℕ) (i found : ℕ) (so : w ≡ before-or found (first_from f (drop i l) i)) where
-  pub sought-more : (b : Bool) → i < length l → i < place_count → b ≡ f (get_or l i no_place) → w ≡ before-or (sooner_of found b i) (first_from f (drop (i + 1) l) (i + 1))
-  sought-more b inside under e = so ∙ ap (λ (r : List Place). before-or found (first_from f r i)) (left l no_place i inside) ∙ go (eqb found place_count) refl (f (get_or l i no_place)) e
-    where
-      go : (c : Bool) → eqb found place_count ≡ c → (d : Bool) → b ≡ d
-          → (if c then (if d then Some i else first_from f (drop (i + 1) l) (i + 1)) else Some found) ≡ before-or (if c then (if b then i else place_count) else found) (first_from f (drop (i + 1) l) (i + 1))
-      go true a true z = rw z (rw (ne_eqb i place_count (omega arith)))
-      go true a false z = rw z
-      go false a d z = rw a
+-- a place that is found is one of them
+pub found-within : (test : Place → Bool) (ps : List Place) (i k : ℕ) → first_from test ps i ≡ Some k → k < i + length ps
+found-within test [] i k e = let z : ◌≡◌ {A = ℕ} 0 1 = cc in absurd (omega arith)
+found-within test (p ∷ ps) i k e = go (test p) e (found-within test ps (i + 1) k)
+  where
+    go : (b : Bool) → (if b then Some i else first_from test ps (i + 1)) ≡ Some k → (first_from test ps (i + 1) ≡ Some k → k < i + 1 + length ps) → k < i + suc (length ps)
+    go true f more = let same : i ≡ k = cc in omega arith
+    go false f more = let m = more f in omega arith
 
--- two searches of eight places are one of all
-module _ (k : Key) (places : List Place) (lower : Sought) (first : Seeks k places 0 lower) where
-  pub in-lower : (lower.at ≡ place_count → ⊥) → place_of k places ≡ Some lower.at
-  in-lower n = first.own ∙ rw (ne_eqb lower.at place_count n)
+-- what is told of a key that is found, and of one that is not
+pub points-found : (vacant : Option ℕ) (at : ℕ) → at < 16 → Points (Some at) vacant (record { at = at; found = true; vacant = true })
+points-found vacant at h = record { inside = h; open_at = refl; has-vacant = λ e. absurd (true≢false e); free-at = λ e. absurd (true≢false e) }
 
-  behind : lower.at ≡ place_count → place_of k places ≡ first_from (holds k) (drop 8 places) 8
-  behind e = first.own ∙ rw (eq-eqb lower.at place_count e)
-
-module _ (k : Key) (places : List Place) (lower upper : Sought) (first : Seeks k places 0 lower) (second : Seeks k places 8 upper) (sixteen : length places ≡ place_count) where
-  pub in-upper : lower.at ≡ place_count → (upper.at ≡ place_count → ⊥) → place_of k places ≡ Some upper.at
-  in-upper e n = behind k places lower first e ∙ second.own ∙ rw (ne_eqb upper.at place_count n)
-
-  none-behind : (f : Place → Bool) → first_from f (drop 16 places) 16 ≡ None
-  none-behind f = rw (drop_of_length-le places {i = 16} (omega arith))
-
-  pub in-none : lower.at ≡ place_count → upper.at ≡ place_count → place_of k places ≡ None
-  in-none e g = behind k places lower first e ∙ second.own ∙ rw (eq-eqb upper.at place_count g) (none-behind (holds k))
-
-  pub lowest : lower.at ≡ place_count → upper.at ≡ place_count → lowest_free places ≡ found_at (sooner_of lower.vacant true upper.vacant)
-  lowest e g = first.free e ∙ ap (before-or lower.vacant) (second.free g ∙ ap (before-or upper.vacant) (none-behind is_free)) ∙ go (eqb lower.vacant place_count) refl
-    where
-      go : (b : Bool) → eqb lower.vacant place_count ≡ b → (if b then before-or upper.vacant None else Some lower.vacant) ≡ found_at (if b then upper.vacant else lower.vacant)
-      go true z = refl
-      go false z = rw z
+pub points-none : (vacant : Option ℕ) → ((k : ℕ) → vacant ≡ Some k → k < 16) → Points None vacant (record { at = unwrap_or vacant 0; found = false; vacant = is_some vacant })
+points-none (Some k) h = record { inside = h k refl; open_at = refl; has-vacant = λ e. refl; free-at = λ e f. refl }
+points-none None h = record { inside = omega arith; open_at = refl; has-vacant = λ e. refl; free-at = λ e f. absurd (true≢false (sym f)) }

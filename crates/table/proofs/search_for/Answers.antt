@@ -1,27 +1,15 @@
-use Rattle.std.proofs.Common.{arith}
-use Rattle.table.proofs.Seeking.{in-lower, in-upper, in-none, lowest}
+use Rattle.std.proofs.Common.{sym, ◌∙◌, arith}
+use Rattle.rules.specs.Places.{holds, is_free}
+use Rattle.table.proofs.Seeking.{found-within, points-found, points-none}
 use Rattle.table.proofs.search_for.Goals as goal
 
-pub returns-then-lower-ne16 : goal.returns-then-lower-ne16
-returns-then-lower-ne16 c =
-    let l = c in
-    let a = l.args in
-    rw (in-lower a.k a.places l.seek_in-lower.result l.seek_in-lower.ensures c.if-lower-ne16.true) (c.found_at.ensures _)
+pub returns-in-Some : goal.returns-in-Some
+returns-in-Some c =
+    let found = sym c.place_of.ensures ∙ c.in-Some.is in
+    rw found (points-found _ c.in-Some.at (omega (arith, found-within (holds c.args.k) c.args.places 0 c.in-Some.at found)))
 
-pub returns-then-upper-ne16 : goal.returns-then-upper-ne16
-returns-then-upper-ne16 c =
-    let u = c in
-    let l = u in
-    let a = l.args in
-    rw (in-upper a.k a.places l.seek_in-lower.result u.seek_in-upper.result l.seek_in-lower.ensures u.seek_in-upper.ensures (omega arith) u.if-lower-ne16.false c.if-upper-ne16.true)
-    (c.found_at-then-upper-ne16.ensures _)
-
-pub returns : goal.returns
-returns c =
-    let e = c in
-    let u = e in
-    let l = u in
-    let a = l.args in
-    let none = in-none a.k a.places l.seek_in-lower.result u.seek_in-upper.result l.seek_in-lower.ensures u.seek_in-upper.ensures (omega arith) u.if-lower-ne16.false e.if-upper-ne16.false in
-    let free = lowest a.k a.places l.seek_in-lower.result u.seek_in-upper.result l.seek_in-lower.ensures u.seek_in-upper.ensures (omega arith) u.if-lower-ne16.false e.if-upper-ne16.false in
-    rw (none, free, ← c.sooner.ensures.value) c.unfound.ensures
+pub returns-in-None : goal.returns-in-None
+returns-in-None c =
+    let found = sym c.place_of.ensures ∙ c.in-None.is in
+    rw (found, c.unwrap_or.ensures, c.is_some.ensures, c.lowest_free-vacant.ensures)
+    (points-none _ (λ k e. omega (arith, found-within is_free c.args.places 0 k e)))
