@@ -3,8 +3,8 @@ use Rattle.std.specs.Prelude.{if◌then◌else◌, ℕ, ◌≤◌, ◌≡◌, Bo
 use Rattle.rules.specs.Numbers.{data_most}
 use Rattle.rules.specs.Places.{free_place, no_place}
 use Rattle.rules.specs.Receiving.{open_place, effect_of, Reception, reception_of}
-use Rattle.rules.specs.Refusals.{unplaced}
 use Rattle.receive_perform.specs.Performing.{quietly}
+use Rattle.receive_perform.specs.declared.Told.{Told}
 use Rattle.receive_perform.specs.declared.Verdict.{Verdict}
 use Rattle.receive_carry.specs.declared.Judged.{Judged}
 use Rattle.rules.specs.declared.Place.{Place}
@@ -30,44 +30,18 @@ carried_at line t store report j octets =
 
 -- a verdict that does not refuse, by where the information is; it saves nothing and has no record
 abbrev pub taken_to : ℕ → Place → Decision → Verdict
-taken_to information put decision = quietly put decision (unplaced 0) information
+taken_to information put decision = quietly put decision None information
 
 -- .. one that saves, and one that has a record
 abbrev pub saving_from : ℕ → Verdict → Verdict
-saving_from from v =
-    record {
-      put = v.put;
-      decision = v.decision;
-      information = v.information;
-      from = from;
-      octets = v.octets;
-      position = v.position;
-      saves = true;
-      refusal = v.refusal;
-      records = v.records;
-      kind = v.kind;
-      instruction = v.instruction;
-      cause = v.cause;
-      segments = v.segments;
-    }
+saving_from from v = record v { saves = Some from }
+
+abbrev pub told_of : ℕ → ℕ → ℕ → ℕ → ℕ → Told
+told_of kind cause instruction segments octets =
+    record { octets = octets; kind = kind; instruction = instruction; cause = cause; segments = segments }
 
 abbrev pub telling_of : ℕ → ℕ → ℕ → ℕ → ℕ → Verdict → Verdict
-telling_of kind cause instruction segments octets v =
-    record {
-      put = v.put;
-      decision = v.decision;
-      information = v.information;
-      from = v.from;
-      octets = octets;
-      position = v.position;
-      saves = v.saves;
-      refusal = v.refusal;
-      records = 1;
-      kind = kind;
-      instruction = instruction;
-      cause = cause;
-      segments = segments;
-    }
+telling_of kind cause instruction segments octets v = record v { told = Some (told_of kind cause instruction segments octets) }
 
 -- the place of a sequence that begins with a segment of n octets
 abbrev pub begun_by : Judged → ℕ → Place

@@ -6,92 +6,67 @@ ghost use Rattle.rules.specs.Summary.{column_of};
 ghost use Rattle.rules.specs.declared.Key.{Key};
 ghost use Rattle.receive_count.specs.Counting.{room_for, added_in, sums_by, OfCount};
 
-use receive_perform::Verdict;
-
-// The row in which a segment is counted, and the refusal of one that cannot be: 21 or 22; 0 is none.
-#[derive(Clone, Copy)]
-pub struct Count {
-    pub row: usize,
-    pub refusal: u8,
-}
+use receive_perform::{Told, Verdict};
+use refusals::Refusal;
 
 // The column of the segments that a record of a kind counts. The next column has its octets.
 fn column(kind: u8) -> usize
     ensures { result ≡ column_of kind }
 {
-    if kind == rules::DELIVERED {
-        return 4;
-    }
-    6
+    if kind == rules::DELIVERED { 4 } else { 6 }
 }
 
 // Whether a row's totals have room for a segment of n octets, and for its record where it has one.
-fn has_room(
-    m: &[u64; rules::SUMMARY],
-    row: usize,
-    n: usize,
-    records: u8,
-    kind: u8,
-    segments: u8,
-    octets: u16,
-) -> bool
+fn has_room(m: &[u64; rules::SUMMARY], row: usize, n: usize, told: Option<Told>) -> bool
     requires { row < 64 }
-    ensures { result ≡ room_for m.now row n records kind segments octets }
+    ensures { result ≡ room_for m.now row n told }
 {
     let taken = summary::has_room(m, 2, row, 1, n as u64);
-    if records == 0 {
-        return taken;
-    }
-    let told = summary::has_room(m, column(kind), row, segments as u64, octets as u64);
-    taken & told
-}
-
-// Counts it there.
-fn add(
-    m: &mut [u64; rules::SUMMARY],
-    row: usize,
-    n: usize,
-    records: u8,
-    kind: u8,
-    segments: u8,
-    octets: u16,
-)
-    requires { (row < 64) × ((length m.old ≡ 512) × (room_for m.old row n records kind segments octets ≡ true)) }
-    ensures { m.new ≡ added_in m.old row n records kind segments octets }
-{
-    summary::add(m, 2, row, 1, n as u64);
-    if records == 0 {
-        return;
-    }
-    summary::add(m, column(kind), row, segments as u64, octets as u64);
-}
-
-// What the summary says to a segment of n octets of an association that is taken otherwise.
-pub fn judge(m: &[u64; rules::SUMMARY], association: u16, n: usize, v: Verdict) -> Count
-    ensures { OfCount m.now association n v result }
-{
-    summary::numbers(m);
-    match summary::row_for(m, association) {
-        None => Count {
-            row: 0,
-            refusal: 21,
-        },
-        Some(row) => {
-            if has_room(m, row, n, v.records, v.kind, v.segments, v.octets) {
-                return Count { row, refusal: 0 };
-            }
-            Count { row, refusal: 22 }
+    match told {
+        None => taken,
+        Some(r) => {
+            let segments = u64::from(r.segments);
+            taken & summary::has_room(m, column(r.kind), row, segments, u64::from(r.octets))
         }
     }
 }
 
+// Counts it there.
+fn add(m: &mut [u64; rules::SUMMARY], row: usize, n: usize, told: Option<Told>)
+    requires { (row < 64) × ((length m.old ≡ 512) × (room_for m.old row n told ≡ true)) }
+    ensures { m.new ≡ added_in m.old row n told }
+{
+    summary::add(m, 2, row, 1, n as u64);
+    if let Some(r) = told {
+        let segments = u64::from(r.segments);
+        summary::add(m, column(r.kind), row, segments, u64::from(r.octets));
+    }
+}
+
+// The row in which a segment of n octets of an association is counted, which is taken otherwise; or the summary's refusal.
+pub fn judge(
+    m: &[u64; rules::SUMMARY],
+    association: u16,
+    n: usize,
+    v: Verdict,
+) -> Result<usize, Refusal>
+    ensures { OfCount m.now association n v result }
+{
+    summary::numbers(m);
+    let row = summary::row_for(m, association).ok_or(Refusal::NoRowUnused)?;
+    if has_room(m, row, n, v.told) {
+        Ok(row)
+    } else {
+        Err(Refusal::TotalLarge)
+    }
+}
+
 // Counts a segment in the row that was judged to have room: it is taken, and its record is billed.
-pub fn perform(m: &mut [u64; rules::SUMMARY], c: Count, association: u16, n: usize, v: Verdict)
-    requires { OfCount m.old association n v c × (c.refusal ≡ 0) }
+pub fn perform(m: &mut [u64; rules::SUMMARY], row: usize, association: u16, n: usize, v: Verdict)
+    requires { OfCount m.old association n v (Ok row) }
     ensures { (key : Key) → key.association ≡ association → m.new ≡ sums_by m.old association n v key }
 {
     summary::numbers(m);
-    let row = c.row;
     summary::seat(m, row, association);
-    add(m, row, n, v.records, v.kind, v.segments, v.octets);
+    add(m, row, n, v.told);
 }

@@ -8,44 +8,39 @@ ghost use Rattle.receive_perform.specs.Performing.{quietly, saved_by, told_by, F
 
 use rules::{Decision, Fault, Key, Place, Record};
 
-// What becomes of a segment: what its place holds afterwards, the answer but for the table, and what is to be written.
-// Where it saves, the parameter's octets from information on go to the place's stretch of the store, from its index from on.
-// Where records is 1, there is a record: of the segment's key, and it says octets, kind, instruction, cause and segments.
+// What a segment's record says beside its key, which is the segment's.
 #[derive(Clone, Copy)]
-pub struct Verdict {
-    pub put: Place,
-    pub decision: Decision,
-    pub information: usize,
-    pub from: u16,
+pub struct Told {
     pub octets: u16,
-    pub position: u16,
-    pub saves: bool,
-    pub refusal: u8,
-    pub records: u8,
     pub kind: u8,
     pub instruction: u8,
     pub cause: u8,
     pub segments: u8,
 }
 
-// A verdict that writes nothing: what its place is to hold, its decision, its refusal (0 is none) with the octet at fault, and where the information is.
-pub fn quiet(put: Place, decision: Decision, fault: Fault, information: usize) -> Verdict
-    ensures { result ≡ quietly put decision fault information }
+// What becomes of a segment: what its place holds afterwards, the answer but for the table, and what is to be written.
+// Where it saves, the parameter's octets from information on go to the place's stretch of the store, from that index of it on.
+#[derive(Clone, Copy)]
+pub struct Verdict {
+    pub put: Place,
+    pub decision: Decision,
+    pub information: usize,
+    pub saves: Option<u16>,
+    pub told: Option<Told>,
+    pub refused: Option<Fault>,
+}
+
+// A verdict that writes nothing: what its place is to hold, its decision, its refusal, if any, with the octet at fault, and where the information is.
+pub fn quiet(put: Place, decision: Decision, refused: Option<Fault>, information: usize) -> Verdict
+    ensures { result ≡ quietly put decision refused information }
 {
     Verdict {
         put,
         decision,
         information,
-        from: 0,
-        octets: 0,
-        position: fault.position,
-        saves: false,
-        refusal: fault.number,
-        records: 0,
-        kind: 0,
-        instruction: 0,
-        cause: 0,
-        segments: 0,
+        saves: None,
+        told: None,
+        refused,
     }
 }
 
@@ -61,32 +56,30 @@ fn save_at(store: &mut [u8], place: usize, at: usize, octets: &[u8])
 }
 
 // Saves the information in its place where a verdict saves.
-fn save(v: Verdict, place: usize, store: &mut [u8], octets: &[u8])
-    requires { (place < place_count) × Fits v (length store.old) (length octets.now) }
-    ensures { store.new ≡ saved_by v place octets.now store.old }
+fn save(v: &Verdict, place: usize, store: &mut [u8], octets: &[u8])
+    requires { (place < place_count) × Fits v.now (length store.old) (length octets.now) }
+    ensures { store.new ≡ saved_by v.now place octets.now store.old }
 {
-    if !v.saves {
-        return;
+    if let Some(from) = v.saves {
+        save_at(store, place, usize::from(from), octets);
     }
-    save_at(store, place, v.from as usize, octets);
 }
 
 // Writes a verdict's record, where it has one, to the front of the report.
-fn tell(v: Verdict, key: Key, report: &mut [u8])
-    ensures { report.new ≡ told_by v key report.old }
+fn tell(v: &Verdict, key: Key, report: &mut [u8])
+    ensures { report.new ≡ told_by v.now key report.old }
 {
-    if v.records == 0 {
-        return;
+    if let Some(told) = v.told {
+        let record = Record {
+            key,
+            octets: told.octets,
+            kind: told.kind,
+            instruction: told.instruction,
+            cause: told.cause,
+            segments: told.segments,
+        };
+        receive_report::put_record(report, 0, record);
     }
-    let record = Record {
-        key,
-        octets: v.octets,
-        kind: v.kind,
-        instruction: v.instruction,
-        cause: v.cause,
-        segments: v.segments,
-    };
-    receive_report::put_record(report, 0, record);
 }
 
 // Performs a verdict on a segment of a key: the one function of the segment call that writes to what was lent.
@@ -102,6 +95,6 @@ pub fn perform(
     ensures store_after { store.new ≡ saved_by v place octets.now store.old }
     ensures report_after { report.new ≡ told_by v key report.old }
 {
-    save(v, place, store, octets);
-    tell(v, key, report);
+    save(&v, place, store, octets);
+    tell(&v, key, report);
 }

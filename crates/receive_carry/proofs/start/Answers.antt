@@ -1,8 +1,0 @@
-use mathlib.Core.Path.{ap, ◌∙◌}
-use Rattle.receive_carry.specs.Carried.{saving_from}
-use Rattle.receive_carry.proofs.Stepping.{puts}
-use Rattle.receive_carry.proofs.start.Goals as goal
-
-pub returns : goal.returns
-returns c =
-    c.saving.ensures ∙ ap (saving_from 0) (puts c.taken.ensures c.begun_place-next.ensures)
