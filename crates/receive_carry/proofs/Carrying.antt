@@ -15,7 +15,7 @@ use Rattle.rules.specs.declared.Line.TheVariants.{Unsegmented, Broken, Restart, 
 use Rattle.rules.specs.declared.Decision.TheVariants.{Saved, Delivered, Lost}
 use Rattle.receive_perform.specs.Performing.{Leads}
 use Rattle.receive_perform.specs.declared.Verdict.{Verdict}
-use Rattle.receive_carry.specs.declared.Judged.{Judged}
+use Rattle.receive_carry.specs.declared.judged.Judged.{Judged}
 use Rattle.receive_carry.specs.Carried.{found_if, held_if, Holds, carried_at, taken_to, saving_from, telling_of, begun_by}
 use Rattle.receive_carry.proofs.Stepping.{places-answer, kept, freed, instruction-is}
 

@@ -6,7 +6,7 @@ use Rattle.rules.specs.Receiving.{open_place, effect_of, Reception, reception_of
 use Rattle.receive_perform.specs.Performing.{quietly}
 use Rattle.receive_perform.specs.declared.Told.{Told}
 use Rattle.receive_perform.specs.declared.Verdict.{Verdict}
-use Rattle.receive_carry.specs.declared.Judged.{Judged}
+use Rattle.receive_carry.specs.declared.judged.Judged.{Judged}
 use Rattle.rules.specs.declared.Place.{Place}
 use Rattle.rules.specs.declared.Table.{Table}
 use Rattle.rules.specs.declared.Line.{Line}

@@ -10,43 +10,22 @@ ghost use Rattle.receive_lines.specs.Telling.{Tells};
 ghost use Rattle.receive_perform.specs.Performing.{Fits, Leads};
 ghost use Rattle.receive_carry.specs.Carried.{found_if, held_if, taken_to, saving_from, told_of, telling_of, begun_by, Holds, Fit, carried_at};
 
+mod judged;
+
+pub use judged::Judged;
 use receive_perform::{Told, Verdict};
-use rules::{Decision, Fields, Key, Line, Part, Place, Table};
+use rules::{Decision, Line, Part, Place, Table};
 
-// A segment as it is judged: its sequence's key, its fields, the place that it is about and what that holds, whether the key is open there, and the time.
-#[derive(Clone, Copy)]
-pub struct Judged {
-    pub key: Key,
-    pub fields: Fields,
-    pub held: Place,
-    pub clock: u32,
-    pub at: usize,
-    pub found: bool,
-}
-
-// What a record says of a sequence that is delivered.
-fn delivered(instruction: u8, segments: u8, octets: u16) -> Told
-    ensures { result ≡ told_of delivered 0 instruction segments octets }
+// What a record of a kind says of a sequence, by what its place holds.
+fn told(kind: u8, cause: u8, p: &Place) -> Told
+    ensures { result ≡ told_of kind cause p.now.instruction p.now.segments p.now.octets }
 {
     Told {
-        octets,
-        kind: rules::DELIVERED,
-        instruction,
-        cause: 0,
-        segments,
-    }
-}
-
-// .. and of one that is lost.
-fn lost(cause: u8, instruction: u8, segments: u8, octets: u16) -> Told
-    ensures { result ≡ told_of lost cause instruction segments octets }
-{
-    Told {
-        octets,
-        kind: rules::LOST,
-        instruction,
+        octets: p.octets,
+        kind,
+        instruction: p.instruction,
         cause,
-        segments,
+        segments: p.segments,
     }
 }
 
@@ -66,12 +45,21 @@ impl Judged {
         }
     }
 
-    // The place of a sequence that begins with this segment, of n octets.
-    fn begun_place(&self, n: usize) -> Place
-        requires { n ≤ parameter_most }
-        ensures { result ≡ begun_by self.now n }
+    // .. of one that begins with it.
+    fn begun(&self) -> Place
+        ensures { result ≡ begun_by self.now self.now.length }
     {
-        self.open_place(self.fields.heading.instruction, 1, n as u16, self.clock)
+        let heading = self.fields.heading;
+        self.open_place(heading.instruction, 1, u16::from(self.length), self.clock)
+    }
+
+    // .. and of one that goes on with it.
+    fn longer(&self) -> Place
+        ensures { result ≡ longer self.now.held self.now.key self.now.fields.heading self.now.length }
+    {
+        let p = &self.held;
+        let octets = p.octets + u16::from(self.length);
+        self.open_place(p.instruction, p.segments + 1, octets, p.start)
     }
 
     // A verdict that does not refuse. It saves nothing, and has no record.
@@ -81,126 +69,112 @@ impl Judged {
         receive_perform::quiet(put, decision, None, self.fields.information)
     }
 
-    // An unsegmented parameter, with n octets of information, is delivered at once and touches no place.
-    fn unsegmented(&self, n: usize) -> Verdict
-        requires { n ≤ parameter_most }
-        ensures { result ≡ telling_of delivered 0 self.now.fields.heading.instruction 1 n (taken_to self.now.fields.information self.now.held (Decision.Delivered (Part.OfParameter self.now.fields.information n))) }
+    // An unsegmented parameter is delivered at once and touches no place.
+    fn unsegmented(&self) -> Verdict
+        ensures { result ≡ telling_of delivered 0 self.now.fields.heading.instruction 1 self.now.length (taken_to self.now.fields.information self.now.held (Decision.Delivered (Part.OfParameter self.now.fields.information self.now.length))) }
     {
         let part = Part::OfParameter {
             start: self.fields.information,
-            length: n,
+            length: usize::from(self.length),
         };
         Verdict {
-            told: Some(delivered(self.fields.heading.instruction, 1, n as u16)),
+            told: Some(told(rules::DELIVERED, 0, &self.begun())),
             ..self.taken(self.held, Decision::Delivered(part))
         }
     }
 
-    // A segment of n octets that breaks its open sequence: both are lost, and the place is free.
-    fn lose(&self, cause: u8, n: usize) -> Verdict
-        requires { (n ≤ parameter_most) × Fit self.now.held }
-        ensures { result ≡ telling_of lost cause self.now.held.instruction (self.now.held.segments + 1) (self.now.held.octets + n) (taken_to self.now.fields.information free_place (Decision.Lost cause (Some self.now.at))) }
+    // A segment that breaks its open sequence: both are lost, and the place is free.
+    fn lose(&self, cause: u8) -> Verdict
+        ensures { result ≡ telling_of lost cause self.now.held.instruction (self.now.held.segments + 1) (self.now.held.octets + self.now.length) (taken_to self.now.fields.information free_place (Decision.Lost cause (Some self.now.at))) }
     {
-        let octets = self.held.octets + n as u16;
-        let segments = self.held.segments + 1;
         Verdict {
-            told: Some(lost(cause, self.held.instruction, segments, octets)),
+            told: Some(told(rules::LOST, cause, &self.longer())),
             ..self.taken(table::free_place(), Decision::Lost(cause, Some(self.at)))
         }
     }
 
     // .. and one that is lost alone, since no sequence is open: the place stays.
-    fn stray(&self, cause: u8, n: usize) -> Verdict
-        requires { n ≤ parameter_most }
-        ensures { result ≡ telling_of lost cause self.now.fields.heading.instruction 1 n (taken_to self.now.fields.information self.now.held (Decision.Lost cause None)) }
+    fn stray(&self, cause: u8) -> Verdict
+        ensures { result ≡ telling_of lost cause self.now.fields.heading.instruction 1 self.now.length (taken_to self.now.fields.information self.now.held (Decision.Lost cause None)) }
     {
         Verdict {
-            told: Some(lost(cause, self.fields.heading.instruction, 1, n as u16)),
+            told: Some(told(rules::LOST, cause, &self.begun())),
             ..self.taken(self.held, Decision::Lost(cause, None))
         }
     }
 
-    // Lines 1, 4, 5 and 6: what was saved, if anything, and this segment, of n octets, are lost.
-    fn broken(&self, cause: u8, n: usize) -> Verdict
-        requires { (n ≤ parameter_most) × Fit self.now.held }
-        ensures { result ≡ telling_of lost cause (if self.now.found then self.now.held.instruction else self.now.fields.heading.instruction) ((held_if self.now.found self.now.held).segments + 1) ((held_if self.now.found self.now.held).octets + n) (taken_to self.now.fields.information (if self.now.found then free_place else self.now.held) (Decision.Lost cause (found_if self.now.found self.now.at))) }
+    // Lines 1, 4, 5 and 6: what was saved, if anything, and this segment are lost.
+    fn broken(&self, cause: u8) -> Verdict
+        ensures { result ≡ telling_of lost cause (if self.now.found then self.now.held.instruction else self.now.fields.heading.instruction) ((held_if self.now.found self.now.held).segments + 1) ((held_if self.now.found self.now.held).octets + self.now.length) (taken_to self.now.fields.information (if self.now.found then free_place else self.now.held) (Decision.Lost cause (found_if self.now.found self.now.at))) }
     {
         if self.found {
-            self.lose(cause, n)
+            self.lose(cause)
         } else {
-            self.stray(cause, n)
+            self.stray(cause)
         }
     }
 
     // Line 2: what was saved is lost, and this segment starts the sequence in the same place.
-    fn restart(&self, n: usize) -> Verdict
-        requires { n ≤ parameter_most }
-        ensures { result ≡ telling_of lost 3 self.now.held.instruction self.now.held.segments self.now.held.octets (saving_from 0 (taken_to self.now.fields.information (begun_by self.now n) (Decision.Lost 3 (Some self.now.at)))) }
+    fn restart(&self) -> Verdict
+        ensures { result ≡ telling_of lost 3 self.now.held.instruction self.now.held.segments self.now.held.octets (saving_from 0 (taken_to self.now.fields.information (begun_by self.now self.now.length) (Decision.Lost 3 (Some self.now.at)))) }
     {
-        let saved = &self.held;
         Verdict {
             saves: Some(0),
-            told: Some(lost(3, saved.instruction, saved.segments, saved.octets)),
-            ..self.taken(self.begun_place(n), Decision::Lost(3, Some(self.at)))
+            told: Some(told(rules::LOST, 3, &self.held)),
+            ..self.taken(self.begun(), Decision::Lost(3, Some(self.at)))
         }
     }
 
     // Line 3: saved in the place for a new sequence.
-    fn start(&self, n: usize) -> Verdict
-        requires { n ≤ parameter_most }
-        ensures { result ≡ saving_from 0 (taken_to self.now.fields.information (begun_by self.now n) (Decision.Saved self.now.at)) }
+    fn start(&self) -> Verdict
+        ensures { result ≡ saving_from 0 (taken_to self.now.fields.information (begun_by self.now self.now.length) (Decision.Saved self.now.at)) }
     {
         Verdict {
             saves: Some(0),
-            ..self.taken(self.begun_place(n), Decision::Saved(self.at))
+            ..self.taken(self.begun(), Decision::Saved(self.at))
         }
     }
 
     // Line 7, none remaining: saved too, and delivered.
-    fn finish(&self, n: usize) -> Verdict
-        requires { Fit self.now.held × (self.now.held.octets + n ≤ data_most) }
-        ensures { result ≡ telling_of delivered 0 self.now.held.instruction (self.now.held.segments + 1) (self.now.held.octets + n) (saving_from self.now.held.octets (taken_to self.now.fields.information free_place (Decision.Delivered (Part.OfStore self.now.at (self.now.held.octets + n))))) }
+    fn finish(&self) -> Verdict
+        ensures { result ≡ telling_of delivered 0 self.now.held.instruction (self.now.held.segments + 1) (self.now.held.octets + self.now.length) (saving_from self.now.held.octets (taken_to self.now.fields.information free_place (Decision.Delivered (Part.OfStore self.now.at (self.now.held.octets + self.now.length))))) }
     {
-        let total = usize::from(self.held.octets) + n;
-        let segments = self.held.segments + 1;
+        let whole = self.longer();
         let part = Part::OfStore {
             place: self.at,
-            length: total,
+            length: usize::from(whole.octets),
         };
         Verdict {
             saves: Some(self.held.octets),
-            told: Some(delivered(self.held.instruction, segments, total as u16)),
+            told: Some(told(rules::DELIVERED, 0, &whole)),
             ..self.taken(table::free_place(), Decision::Delivered(part))
         }
     }
 
     // Line 7, more remaining: saved.
-    fn go_on(&self, n: usize) -> Verdict
-        requires { Fit self.now.held × (self.now.held.octets + n ≤ data_most) }
-        ensures { result ≡ saving_from self.now.held.octets (taken_to self.now.fields.information (longer self.now.held self.now.key self.now.fields.heading n) (Decision.Saved self.now.at)) }
+    fn go_on(&self) -> Verdict
+        ensures { result ≡ saving_from self.now.held.octets (taken_to self.now.fields.information (longer self.now.held self.now.key self.now.fields.heading self.now.length) (Decision.Saved self.now.at)) }
     {
-        let total = self.held.octets + n as u16;
-        let segments = self.held.segments + 1;
-        let next = self.open_place(self.held.instruction, segments, total, self.held.start);
         Verdict {
             saves: Some(self.held.octets),
-            ..self.taken(next, Decision::Saved(self.at))
+            ..self.taken(self.longer(), Decision::Saved(self.at))
         }
     }
 }
 
-// The verdict on a segment of n octets, by its line.
-pub fn judge(line: Line, j: Judged, n: usize) -> Verdict
-    requires { (n ≤ parameter_most) × (Fit j.held × Tells j.found j.held.octets n line) }
-    ensures leads { (t : Table) (store report octets : List ℕ) → Holds t j → length octets ≡ n → Leads (carried_at line t store report j octets) t j.at j.key result octets store report }
-    ensures information_value { (result.information ≡ j.fields.information) × ((store : ℕ) → store_least ≤ store → Fits result store n) }
+// The verdict on a segment, by its line.
+// As it was: (i) a line is a value of the rules (Line): receive_lines::line_of answers it, and the clause leads names it.
+pub fn judge(line: Line, j: Judged) -> Verdict
+    requires { Tells j.found j.held.octets j.length line }
+    ensures leads { (t : Table) (store report octets : List ℕ) → Holds t j → length octets ≡ j.length → Leads (carried_at line t store report j octets) t j.at j.key result octets store report }
+    ensures information_value { (result.information ≡ j.fields.information) × ((store : ℕ) → store_least ≤ store → Fits result store j.length) }
 {
     match line {
-        Line::Unsegmented => j.unsegmented(n),
-        Line::Broken(cause) => j.broken(cause, n),
-        Line::Restart => j.restart(n),
-        Line::Start => j.start(n),
-        Line::Final => j.finish(n),
-        Line::Next => j.go_on(n),
+        Line::Unsegmented => j.unsegmented(),
+        Line::Broken(cause) => j.broken(cause),
+        Line::Restart => j.restart(),
+        Line::Start => j.start(),
+        Line::Final => j.finish(),
+        Line::Next => j.go_on(),
     }
 }

@@ -1,9 +1,8 @@
 // A segment's verdict, and what performing it writes. Judging makes the verdict, and writes nothing.
 #![tactic(auto)]
 
-ghost use Rattle.std.specs.Prelude.{◌≡◌, ◌+◌, ◌≤◌, ◌<◌, length};
-ghost use Rattle.rules.specs.Numbers.{stretch_length, store_least, place_count};
-ghost use Rattle.rules.specs.Receiving.{save_at};
+ghost use Rattle.std.specs.Prelude.{◌≡◌, ◌<◌, length};
+ghost use Rattle.rules.specs.Numbers.{place_count};
 ghost use Rattle.receive_perform.specs.Performing.{quietly, saved_by, told_by, Fits};
 
 use rules::{Decision, Fault, Key, Place, Record};
@@ -44,24 +43,15 @@ pub fn quiet(put: Place, decision: Decision, refused: Option<Fault>, information
     }
 }
 
-// Writes octets to a place's stretch of the store, from its index at on.
-fn save_at(store: &mut [u8], place: usize, at: usize, octets: &[u8])
-    requires place_lt_place_count { (place < place_count) × (store_least ≤ length store.old) }
-    requires octets_bound { at + length octets.now ≤ stretch_length }
-    ensures { store.new ≡ save_at store.old place at octets.now }
-{
-    let start = rules::STRETCH * place;
-    let end = start + rules::STRETCH;
-    octets::put_at(&mut store[start..end], at, octets);
-}
-
-// Saves the information in its place where a verdict saves.
+// Saves the information in its place's stretch of the store where a verdict saves.
 fn save(v: &Verdict, place: usize, store: &mut [u8], octets: &[u8])
     requires { (place < place_count) × Fits v.now (length store.old) (length octets.now) }
     ensures { store.new ≡ saved_by v.now place octets.now store.old }
 {
     if let Some(from) = v.saves {
-        save_at(store, place, usize::from(from), octets);
+        let start = rules::STRETCH * place;
+        let stretch = &mut store[start..start + rules::STRETCH];
+        octets::put_at(stretch, usize::from(from), octets);
     }
 }
 

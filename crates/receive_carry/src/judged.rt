@@ -1,0 +1,20 @@
+// A segment as it is judged.
+ghost use Rattle.std.specs.Prelude.{◌≤◌};
+ghost use Rattle.rules.specs.Numbers.{data_most};
+
+use rules::{Fields, Key, Place};
+
+// Its sequence's key, its fields, the place that it is about and what that holds, whether the key is open there, the time, and how many octets of information it has.
+// As it was: (iv) held and at count where found is not set, too: a sequence starts at at, and what no line changes is written back.
+#[derive(Clone, Copy)]
+pub struct Judged {
+    pub key: Key,
+    pub fields: Fields,
+    pub held: Place,
+    pub clock: u32,
+    pub at: usize,
+    pub found: bool,
+    pub length: u8,
+    pub ghost octets_fit: { held.octets ≤ data_most },
+    pub ghost segments_fit: { held.segments ≤ 9 },
+}
