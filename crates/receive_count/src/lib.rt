@@ -1,7 +1,7 @@
 // What a segment adds to the summary: judged by the verdict on it, reading only; then written.
 #![tactic(auto)]
 
-ghost use Rattle.std.specs.Prelude.{◌≡◌, true, ◌<◌, length};
+ghost use Rattle.std.specs.Prelude.{◌≡◌, true, ◌<◌};
 ghost use Rattle.rules.specs.Summary.{column_of};
 ghost use Rattle.rules.specs.declared.Key.{Key};
 ghost use Rattle.receive_count.specs.Counting.{room_for, added_in, sums_by, OfCount};
@@ -10,6 +10,7 @@ use receive_perform::{Told, Verdict};
 use refusals::Refusal;
 
 // The column of the segments that a record of a kind counts. The next column has its octets.
+// As it was: (i) a record's kind is a number of the rules (Record.kind, column_of).
 fn column(kind: u8) -> usize
     ensures { result ≡ column_of kind }
 {
@@ -17,6 +18,7 @@ fn column(kind: u8) -> usize
 }
 
 // Whether a row's totals have room for a segment of n octets, and for its record where it has one.
+// As it was: (i) summary::has_room and summary::add require row < 64, and take a u64, which std makes of no usize but by `as`.
 fn has_room(m: &[u64; rules::SUMMARY], row: usize, n: usize, told: Option<Told>) -> bool
     requires { row < 64 }
     ensures { result ≡ room_for m.now row n told }
@@ -33,7 +35,7 @@ fn has_room(m: &[u64; rules::SUMMARY], row: usize, n: usize, told: Option<Told>)
 
 // Counts it there.
 fn add(m: &mut [u64; rules::SUMMARY], row: usize, n: usize, told: Option<Told>)
-    requires { (row < 64) × ((length m.old ≡ 512) × (room_for m.old row n told ≡ true)) }
+    requires { (row < 64) × (room_for m.old row n told ≡ true) }
     ensures { m.new ≡ added_in m.old row n told }
 {
     summary::add(m, 2, row, 1, n as u64);
@@ -52,7 +54,6 @@ pub fn judge(
 ) -> Result<usize, Refusal>
     ensures { OfCount m.now association n v result }
 {
-    summary::numbers(m);
     let row = summary::row_for(m, association).ok_or(Refusal::NoRowUnused)?;
     if has_room(m, row, n, v.told) {
         Ok(row)
@@ -66,7 +67,6 @@ pub fn perform(m: &mut [u64; rules::SUMMARY], row: usize, association: u16, n: u
     requires { OfCount m.old association n v (Ok row) }
     ensures { (key : Key) → key.association ≡ association → m.new ≡ sums_by m.old association n v key }
 {
-    summary::numbers(m);
     summary::seat(m, row, association);
     add(m, row, n, v.told);
 }

@@ -9,7 +9,7 @@ returns-then-has_room c =
     let for : row_for a.m.now a.association ≡ Some c.in_ok-row.row = grind arith in
     let room = sym c.has_room.ensures ∙ c.if-has_room.true in
     record {
-      number = λ key own. sym (last-number a.m.now _ a.association (Some _) true for (room-is a.m.now c.numbers.ensures.1 a.association a.n _ for key own a.v ∙ room));
+      number = λ key own. sym (last-number a.m.now _ a.association (Some _) true for (room-is a.m.now c.told-m a.association a.n _ for key own a.v ∙ room));
       row = λ i e. cc;
       room = λ i e. cc;
     }
@@ -20,7 +20,7 @@ returns-else-has_room c =
     let for : row_for a.m.now a.association ≡ Some c.in_ok-row.row = grind arith in
     let room = sym c.has_room.ensures ∙ c.if-has_room.false in
     record {
-      number = λ key own. sym (last-number a.m.now _ a.association (Some _) false for (room-is a.m.now c.numbers.ensures.1 a.association a.n _ for key own a.v ∙ room));
+      number = λ key own. sym (last-number a.m.now _ a.association (Some _) false for (room-is a.m.now c.told-m a.association a.n _ for key own a.v ∙ room));
       row = λ i e. cc;
       room = λ i e. cc;
     }

@@ -15,7 +15,7 @@ add-requires c =
     let within = row-for-within a.m.now a.association a.row (c.requires.row _ refl) in (
       within,
       (
-        rw c.seat.ensures (length-seat a.m.now a.row a.association ∙ c.numbers.ensures.1),
+        rw c.seat.ensures (length-seat a.m.now a.row a.association ∙ c.told-m),
         rw c.seat.ensures (seated-room a.m.now a.row a.association a.n a.v.told within ∙ c.requires.room _ refl),
       ),
     )
@@ -23,4 +23,4 @@ add-requires c =
 pub returns : goal.returns
 returns c =
     let a = c.args in
-    λ key own. c.add.ensures ∙ rw c.seat.ensures (sums-is a.m.now c.numbers.ensures.1 a.association a.n a.row (c.requires.row _ refl) key own a.v)
+    λ key own. c.add.ensures ∙ rw c.seat.ensures (sums-is a.m.now c.told-m a.association a.n a.row (c.requires.row _ refl) key own a.v)
