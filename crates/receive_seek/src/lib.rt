@@ -25,8 +25,8 @@ fn address_at(s: &[u8], a: Span) -> Address
     requires { a.length ≤ address_most }
     ensures { result ≡ address_at s.now a }
 {
-    let mut octets = [0; 20];
-    octets::put(&mut octets, octets::part(s, a.at, a.length as usize));
+    let mut octets = [0; rules::ADDRESS];
+    octets::put(&mut octets, octets::part(s, a.at, usize::from(a.length)));
     Address {
         octets,
         length: a.length,
@@ -34,23 +34,16 @@ fn address_at(s: &[u8], a: Span) -> Address
 }
 
 // The key of a segment's sequence.
-fn key_of(association: u16, s: &[u8], f: Fields) -> Key
-    requires { (f.origin.length ≤ address_most) × (f.destination.length ≤ address_most) }
-    ensures { result ≡ key_of association s.now f }
+fn key_of(association: u16, s: &[u8], f: &Fields) -> Key
+    requires { (f.now.origin.length ≤ address_most) × (f.now.destination.length ≤ address_most) }
+    ensures { result ≡ key_of association s.now f.now }
 {
-    let heading = f.heading;
-    let context = heading.context;
-    let reference = heading.reference;
-    let from = f.origin;
-    let to = f.destination;
-    let origin = address_at(s, from);
-    let destination = address_at(s, to);
     Key {
         association,
-        context,
-        origin,
-        destination,
-        reference,
+        context: f.heading.context,
+        origin: address_at(s, f.origin),
+        destination: address_at(s, f.destination),
+        reference: f.heading.reference,
     }
 }
 
@@ -58,27 +51,14 @@ fn key_of(association: u16, s: &[u8], f: Fields) -> Key
 fn nowhere(reading: Result<Fields, Fault>, key: Key) -> Sought
     ensures { result ≡ record { reading = reading; key = key; search = record { at = 0; found = false; vacant = false } } }
 {
-    let search = Search {
-        at: 0,
-        found: false,
-        vacant: false,
-    };
     Sought {
         reading,
         key,
-        search,
-    }
-}
-
-// A parameter that was read, with the place that it is about.
-fn placed(places: [Place; 16], reading: Result<Fields, Fault>, key: Key) -> Sought
-    ensures { (result.reading ≡ reading) × (Points (place_of key places) (lowest_free places) result.search × (result.key ≡ key)) }
-{
-    let search = table::search_for(places, key);
-    Sought {
-        reading,
-        key,
-        search,
+        search: Search {
+            at: 0,
+            found: false,
+            vacant: false,
+        },
     }
 }
 
@@ -87,22 +67,21 @@ pub fn seek(t: Table, association: u16, s: &[u8]) -> Sought
     ensures reading_value { (result.reading ≡ reading t.registry s.now) × (result.search.at < place_count) }
     ensures seeks { (f : Fields) → result.reading ≡ Ok f → Seeks t (key_of association s.now f) f.heading result }
 {
-    let registry = t.registry;
-    let reading = param_read::read(registry, s);
+    let reading = param_read::read(t.registry, s);
     match reading {
-        Err(_) => {
-            let free = table::free_place();
-            let key = free.key;
-            nowhere(reading, key)
-        }
+        Err(_) => nowhere(reading, table::free_place().key),
         Ok(f) => {
-            let key = key_of(association, s, f);
-            let alone = f.heading.new & (f.heading.remaining.0 == 0);
+            let key = key_of(association, s, &f);
+            let alone = f.heading.new && f.heading.remaining.0 == 0;
             if alone {
                 return nowhere(reading, key);
             }
-            let places = t.places;
-            placed(places, reading, key)
+            let search = table::search_for(t.places, key);
+            Sought {
+                reading,
+                key,
+                search,
+            }
         }
     }
 }

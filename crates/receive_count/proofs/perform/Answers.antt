@@ -12,13 +12,8 @@ seat-requires c =
 pub add-requires : goal.add-requires
 add-requires c =
     let a = c.args in
-    let within = row-for-within a.m.now a.association a.row (c.requires.row _ refl) in (
-      within,
-      (
-        rw c.seat.ensures (length-seat a.m.now a.row a.association ∙ c.told-m),
-        rw c.seat.ensures (seated-room a.m.now a.row a.association a.n a.v.told within ∙ c.requires.room _ refl),
-      ),
-    )
+    let within = row-for-within a.m.now a.association a.row (c.requires.row _ refl) in
+    (within, rw c.seat.ensures (seated-room a.m.now a.row a.association a.n a.v.told within ∙ c.requires.room _ refl))
 
 pub returns : goal.returns
 returns c =
