@@ -168,6 +168,7 @@ pub fn judge(line: Line, j: Judged) -> Verdict
     requires { Tells j.found j.held.octets j.length line }
     ensures leads { (t : Table) (store report octets : List ℕ) → Holds t j → length octets ≡ j.length → Leads (carried_at line t store report j octets) t j.at j.key result octets store report }
     ensures information_value { (result.information ≡ j.fields.information) × ((store : ℕ) → store_least ≤ store → Fits result store j.length) }
+    ensures taken { result.refused ≡ None }
 {
     match line {
         Line::Unsegmented => j.unsegmented(),

@@ -1,6 +1,7 @@
 -- The steps of the segment call, one after the other, are its rule.
-use Rattle.std.specs.Prelude.{Option, Some, Result, Ok, Err}
-use Prim.Native.Nat.{ℕ, zero, suc}
+use Rattle.std.specs.Prelude.{Option, Some, None, Result, Ok, Err}
+use Prim.Native.Nat.{ℕ, zero, suc, ◌≤◌}
+use Rattle.rules.specs.Numbers.{data_most}
 use mathlib.Core.Path.{◌≡◌, refl, sym, ap, ◌∙◌}
 use mathlib.Core.Bool.{Bool, true, false, not, ◌&&◌, and-eq-true_iff, true≢false}
 use mathlib.Core.List.{List, [], ◌∷◌, ◌++◌}
@@ -31,7 +32,7 @@ use Rattle.receive_perform.specs.Performing.{refused_with, records_in, saved_by,
 use Rattle.receive_perform.specs.declared.Verdict.{Verdict}
 use Rattle.receive_carry.specs.Carried.{found_if, held_if, carried_at, Fit}
 use Rattle.receive_carry.proofs.Stepping.{kept}
-use Rattle.receive_carry.specs.declared.Judged.{Judged}
+use Rattle.receive_carry.specs.declared.judged.Judged.{Judged}
 use Rattle.receive_seek.specs.Seeking.{Seeks}
 use Rattle.receive_seek.specs.declared.Sought.{Sought}
 use Rattle.receive_segment.specs.Arrival.{arrival, OfVerdict}
@@ -62,17 +63,19 @@ module _ (t : Table) (at : ℕ) (x : Fault) (k : Key) (held : Place) (v : Verdic
       }
 
   pub refused-fits : (store m : ℕ) → Fits v store m
-  refused-fits store m w = absurd (true≢false (sym w ∙ ap (λ (x : Verdict). x.saves) e))
+  refused-fits store m = rw e tt
 
   pub refused-verdict : (store report association : ℕ) (s : List ℕ) → (x.number ≡ 0 → ⊥)
       → ((st rp : List ℕ) → length st ≡ store → length rp ≡ report → segment t st rp association s ≡ unreceived t st rp x)
       → OfVerdict t store report association s at k v
-  refused-verdict store report association s some is =
+  refused-verdict store report association s real is =
+      let why : v.refused ≡ Some x = rw e in
       record {
         leads = λ st rp a b. leads-as (sym (is st rp a b)) (refuses _ st rp);
         fits = refused-fits _ _;
-        taken = λ z. absurd (some (sym (ap (λ (w : Verdict). w.refusal) e) ∙ z));
-        own = λ z. absurd (some (sym (ap (λ (w : Verdict). w.refusal) e) ∙ z));
+        taken = λ z. cc;
+        own = λ z. cc;
+        some = λ y f z. let same : x ≡ y = cc in real (rw same z);
       }
 
 -- where no sequence is open, what it would hold does not matter to the line
@@ -102,8 +105,9 @@ saved-is ps at true held place e h = rw e (sym h)
 saved-is ps at false held place e h = rw e
 
 -- a segment as its line is carried out
-abbrev pub judged_of : Table → Fields → Sought → Place → Judged
-judged_of t f q held = record { key = q.key; fields = f; held = held; clock = t.clock; at = q.search.at; found = q.search.found }
+abbrev pub judged_of : Table → Fields → Sought → (held : Place) → ℕ → held.octets ≤ data_most → held.segments ≤ 9 → Judged
+judged_of t f q held n a b =
+    record { key = q.key; fields = f; held = held; clock = t.clock; at = q.search.at; found = q.search.found; length = n; octets_fit = a; segments_fit = b }
 
 -- what the steps find of a segment
 module _ (t : Table) (store report : List ℕ) (f : Fields) (octets : List ℕ) (q : Sought) (held : Place) (line : Line)
@@ -154,12 +158,12 @@ module _ (t : Table) (store report : List ℕ) (f : Fields) (octets : List ℕ) 
       go true a = absurd (true≢false (sym (simp (alone-line a) at e)))
       go false a = simp (rw (line-at a) at (sym (same-room a) ∙ e))
 
-  pub is_carried : (is_start line && not q.search.vacant) ≡ false → carried_at line t store report (judged_of t f q held) octets ≡ arrival t store report q.key f octets
+  pub is_carried : (n : ℕ) (fits : held.octets ≤ data_most) (few : held.segments ≤ 9) → (is_start line && not q.search.vacant) ≡ false → carried_at line t store report (judged_of t f q held n fits few) octets ≡ arrival t store report q.key f octets
   unfolding carried_at arrival effect_of
-  is_carried e = go (is_unsegmented f.heading.new f.heading.remaining.0) refl
+  is_carried n fits few e = go (is_unsegmented f.heading.new f.heading.remaining.0) refl
     where
       go : (b : Bool) → is_unsegmented f.heading.new f.heading.remaining.0 ≡ b
-          → carried_at line t store report (judged_of t f q held) octets ≡ arrival t store report q.key f octets
+          → carried_at line t store report (judged_of t f q held n fits few) octets ≡ arrival t store report q.key f octets
       go true a = rw (alone-line a, line-alone (is_at (place_of q.key t.places)) (place_at t.places (place_of q.key t.places)).remaining.0 (place_at t.places (place_of q.key t.places)).octets f.heading (length octets) a)
       go false a =
           let place : Option ℕ = place_of q.key t.places in
@@ -204,3 +208,10 @@ segment-is t store report association s n m a b =
     fault-append areas (reads ++ full) (unreceived t store report) _
     ∙ ap (λ (r : Reception). judged_at areas (unreceived t store report) r) (fault-append reads full (unreceived t store report) _ ∙ sym (fault-then (after_reading t store report association s) reads Err (Ok f)))
     ∙ rw (a, b)
+
+-- .. of what reading answers where the first checks let a parameter be looked at
+pub segment-read : (t : Table) (store report : List ℕ) (association : ℕ) (s : List ℕ) (n m : ℕ) → length store ≡ n → length report ≡ m → segment t store report association s
+    ≡ after_reading t store report association s (judged_at (lent_checks record_length (sound t) n m) Err (reading t.registry s))
+segment-read t store report association s n m a b =
+    segment-is t store report association s n m a b
+    ∙ sym (fault-then (after_reading t store report association s) (lent_checks record_length (sound t) n m) Err (reading t.registry s))

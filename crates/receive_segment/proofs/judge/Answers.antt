@@ -1,61 +1,54 @@
-use mathlib.Core.Path.{refl, sym, ap, ◌∙◌}
-use Prim.Native.Nat.{ℕ}
-use native.Mathlib.Omega.{arith}
-use lib.ListN.{drop}
-use borrow.Author.Tests.{lt-ltb, le-ltb}
+use Rattle.std.proofs.Common.{◌≡◌, ℕ, refl, sym, ap, ◌∙◌, drop, Ok, Err}
+use Rattle.rules.specs.Refusals.{judged_at}
 use Rattle.rules.specs.Records.{record_length}
-use Rattle.rules.specs.Refusals.{unplaced}
-use Rattle.rules.specs.Receiving.{information_of}
+use Rattle.rules.specs.Soundness.{sound}
+use Rattle.rules.specs.Receiving.{information_of, lent_checks}
 use Rattle.rules.specs.declared.Key.{Key}
+use Rattle.param_read.specs.Reading.{reading}
 use Rattle.receive_segment.specs.Arrival.{arrival}
 use Rattle.receive_seek.proofs.Reading.{read_short, read-fields, read_number}
-use Rattle.receive_segment.proofs.Arriving.{leads-as, refused-verdict, segment-is}
+use Rattle.receive_segment.proofs.Arriving.{leads-as, refused-verdict, segment-read, after_reading}
 use Rattle.receive_segment.proofs.judge.Goals as goal
 
-pub returns-then-not-is_sound : goal.returns-then-not-is_sound
-returns-then-not-is_sound c =
-    let a = c.args in
-    refused-verdict a.t a.q.search.at (unplaced 1) a.q.key a.held _ c.requires.at_lt_place_count.1 c.refused.ensures a.store a.report a.association a.s.now (λ z. omega arith)
-    (λ st rp g h. segment-is a.t st rp a.association a.s.now _ _ g h ∙ simp (sym c.requires.is_sound_value ∙ c.if-not-is_sound.true))
-
-pub returns-then-store-lt-STORE : goal.returns-then-store-lt-STORE
-returns-then-store-lt-STORE c =
-    let a = c.args in
-    refused-verdict a.t a.q.search.at (unplaced 2) a.q.key a.held _ c.requires.at_lt_place_count.1 c.refused-then-store-lt-STORE.ensures a.store a.report a.association a.s.now (λ z. omega arith)
-    (λ st rp g h. segment-is a.t st rp a.association a.s.now _ _ g h ∙ simp (sym c.requires.is_sound_value ∙ c.if-not-is_sound.false, lt-ltb _ _ c.if-store-lt-STORE.true))
-
-pub returns-then-report-lt-RECORD : goal.returns-then-report-lt-RECORD
-returns-then-report-lt-RECORD c =
-    let a = c.args in
-    refused-verdict a.t a.q.search.at (unplaced 3) a.q.key a.held _ c.requires.at_lt_place_count.1 c.refused-then-report-lt-RECORD.ensures a.store a.report a.association a.s.now (λ z. omega arith)
-    (λ st rp g h. segment-is a.t st rp a.association a.s.now _ _ g h ∙ simp (sym c.requires.is_sound_value ∙ c.if-not-is_sound.false, le-ltb _ _ c.if-store-lt-STORE.false, lt-ltb _ _ c.if-report-lt-RECORD.true))
-
-pub arrive-requires : goal.arrive-requires
-arrive-requires c =
-    let w = read_short c.args.t c.args.s.now _ (sym c.requires.reading_value.0 ∙ c.in-Ok.is) in
-    let q = c.requires.reading_value.1 _ c.in-Ok.is in
-    record { t_value = (sym c.requires.is_sound_value ∙ c.if-not-is_sound.false, (w.parameter, record { key-is = refl; points = rw (← q.key-is) at q.points })); at_lt_place_count = c.requires.at_lt_place_count }
-
-pub returns-in-Err : goal.returns-in-Err
-returns-in-Err c =
-    let a = c.args in
-    refused-verdict a.t a.q.search.at c.in-Err.fault a.q.key a.held _ c.requires.at_lt_place_count.1 c.refused-in-Err.ensures a.store a.report a.association a.s.now (read_number a.t.registry a.s.now _ (sym c.requires.reading_value.0 ∙ c.in-Err.is))
-    (λ st rp g h. segment-is a.t st rp a.association a.s.now _ _ g h ∙ simp (sym c.requires.is_sound_value ∙ c.if-not-is_sound.false, le-ltb _ _ c.if-store-lt-STORE.false, le-ltb a.report record_length (omega arith), sym c.requires.reading_value.0 ∙ c.in-Err.is))
+pub arrive-requires-clause-t_value : goal.arrive-requires-clause-t_value
+arrive-requires-clause-t_value c =
+    let r = c.in-Ok.ensures.read _ refl in
+    let w = read_short c.args.t.now c.args.s.now _ (sym c.requires.reading_value.0 ∙ r.1.1) in
+    let q = c.requires.reading_value.1 _ r.1.1 in
+    (sym c.requires.is_sound_value ∙ r.0, (w.parameter, record { key-is = refl; points = rw (← q.key-is) at q.points }))
 
 pub returns-in-Ok : goal.returns-in-Ok
 returns-in-Ok c =
     let a = c.args in
+    let t = a.t.now in
+    let s = a.s.now in
     let f = c.in-Ok.f in
-    let q = c.requires.reading_value.1 f c.in-Ok.is in
+    let r = c.in-Ok.ensures.read _ refl in
+    let q = c.requires.reading_value.1 f r.1.1 in
+    let read : judged_at (lent_checks record_length (sound t) a.store a.report) Err (reading t.registry s) ≡ Ok f =
+    rw (← c.requires.is_sound_value, ← c.requires.reading_value.0) (sym c.in-Ok.ensures.value) in
     record {
       leads = λ st rp g h.
           leads-as
-          (ap (λ (k : Key). arrival a.t st rp k f (information_of a.s.now f)) q.key-is
-          ∙ sym (segment-is a.t st rp a.association a.s.now _ _ g h ∙ simp (sym c.requires.is_sound_value ∙ c.if-not-is_sound.false, le-ltb _ _ c.if-store-lt-STORE.false, le-ltb a.report record_length (omega arith), sym c.requires.reading_value.0 ∙ c.in-Ok.is)))
+          (ap (λ (k : Key). arrival t st rp k f (information_of s f)) q.key-is
+          ∙ sym (segment-read t st rp a.association s _ _ g h ∙ ap (after_reading t st rp a.association s) read))
           (c.arrive.ensures.by_index st rp);
-      fits = c.arrive.ensures.by_index_2 _ c.if-store-lt-STORE.false;
+      fits = c.arrive.ensures.by_index_2 _ r.1.0;
       taken = λ z.
-          ap (λ (k : ℕ). drop k a.s.now) (c.arrive.ensures.information_value z)
-          ∙ ap (information_of a.s.now) (sym (read-fields a.t.registry a.s.now f (sym c.requires.reading_value.0 ∙ c.in-Ok.is)));
+          ap (λ (k : ℕ). drop k s) (c.arrive.ensures.information_value z)
+          ∙ ap (information_of s) (sym (read-fields t.registry s f (sym c.requires.reading_value.0 ∙ r.1.1)));
       own = λ z. ap (λ (k : Key). k.association) q.key-is;
+      some = c.arrive.ensures.some;
     }
+
+pub returns-in-Err : goal.returns-in-Err
+returns-in-Err c =
+    let a = c.args in
+    let t = a.t.now in
+    let s = a.s.now in
+    let x = c.in-Err.fault in
+    let read : judged_at (lent_checks record_length (sound t) a.store a.report) Err (reading t.registry s) ≡ Err x =
+    rw (← c.requires.is_sound_value, ← c.requires.reading_value.0) (sym c.in-Err.ensures.value) in
+    refused-verdict t a.q.search.at x a.q.key a.held _ c.requires.at_lt_place_count.1 c.refused.ensures a.store a.report a.association s
+    (c.in-Err.ensures.some (λ y e. read_number t.registry s y (sym c.requires.reading_value.0 ∙ e)) x refl)
+    (λ st rp g h. segment-read t st rp a.association s _ _ g h ∙ ap (after_reading t st rp a.association s) read)
