@@ -6,14 +6,15 @@ ghost use Rattle.octets.specs.Splice.{Wrote};
 ghost use Rattle.rules.specs.Records.{record_length};
 ghost use Rattle.rules.specs.Arrival.{records_most};
 ghost use Rattle.rules.specs.Calls.{lending};
-ghost use Rattle.rules.specs.Lines.{counted};
-ghost use Rattle.trace_events.specs.Events.{stored_of};
+ghost use Rattle.trace_events.specs.Events.{stored_of, stored_by, lent_by, Same};
 ghost use Rattle.trace_turns.specs.Turns.{Fits};
+ghost use Rattle.trace_lines.specs.Writers.{Writes};
 ghost use Rattle.trace.specs.Watching.{observer_of, ended_by, opens_next, first_if, event_by, told_by, Begins, count_by, stops_at, OfTurn, turned, runs, end_of};
 
 use rules::Place;
-use trace_events::Replay;
+use trace_events::{Areas, Replay};
 use trace_items::Happening;
+use trace_lines::Writer;
 use trace_turns::Met;
 
 // What a turn prints is no longer than this: so much room there has to be for one more.
@@ -38,20 +39,15 @@ pub struct Progress {
 }
 
 // The end, at a table with these places, and a summary.
-fn tell_end(
-    which: Watcher,
-    places: [Place; 16],
-    m: &[u64; rules::SUMMARY],
-    stops: bool,
-    out: &mut [u8],
-) -> usize
-    ensures wrote { Wrote out.old 0 (ended_by which places m.now «stops») out.new result }
-    ensures upper_bound { result ≤ 16384 }
+fn tell_end(which: Watcher, places: &[Place; 16], m: &[u64; rules::SUMMARY], stops: bool, w: &mut Writer<'_>)
+    requires { w.old.at ≤ 0 }
+    ensures wrote { Writes w.old (ended_by which places.now m.now «stops») w.new }
+    ensures upper_bound { w.new.at ≤ 16384 }
 {
     match which {
-        Watcher::Lines => trace_lines::put_end(out, 0, stops),
-        Watcher::Records => trace_records::put_end(out, places, stops),
-        Watcher::Totals => trace_totals::put_end(out, m, stops),
+        Watcher::Lines => w.put_end(stops),
+        Watcher::Records => trace_records::put_end(w, places, stops),
+        Watcher::Totals => trace_totals::put_end(w, m, stops),
     }
 }
 
@@ -65,160 +61,115 @@ fn opens_next(input: &[u8]) -> bool
     input[0] == 32
 }
 
-// The rows, where an opening is about to empty them.
-fn tell_rows(m: &[u64; rules::SUMMARY], input: &[u8], out: &mut [u8]) -> usize
-    ensures wrote { Wrote out.old 0 (first_if Watcher.Totals (opens_next input.now) m.now) out.new result }
-    ensures upper_bound { result ≤ 9408 }
-{
-    if opens_next(input) {
-        return trace_totals::put_rows(out, 0, m);
-    }
-    0
-}
-
-// What is printed before the call of the record at the front of an input.
-fn tell_first(which: Watcher, m: &[u64; rules::SUMMARY], input: &[u8], out: &mut [u8]) -> usize
-    ensures wrote { Wrote out.old 0 (first_if which (opens_next input.now) m.now) out.new result }
-    ensures begins { Begins which result }
+// What is printed before the call of the record at the front of an input: the rows, where an opening is about to empty them.
+fn tell_first(which: Watcher, m: &[u64; rules::SUMMARY], input: &[u8], w: &mut Writer<'_>)
+    requires { w.old.at ≤ 0 }
+    ensures wrote { Writes w.old (first_if which (opens_next input.now) m.now) w.new }
+    ensures begins { Begins which w.new.at }
 {
     match which {
-        Watcher::Lines => 0,
-        Watcher::Records => 0,
-        Watcher::Totals => tell_rows(m, input, out),
+        Watcher::Lines => {}
+        Watcher::Records => {}
+        Watcher::Totals => {
+            if opens_next(input) {
+                trace_totals::put_rows(w, m);
+            }
+        }
     }
-}
-
-// The number of the next event.
-fn next_event(events: u64) -> u64
-    ensures { result ≡ counted events }
-{
-    std::num::wrapping_add_u64(events, 1)
-}
-
-// The heading of an opening; of another event nothing.
-fn tell_heading(events: u64, h: Happening, at: usize, out: &mut [u8]) -> usize
-    requires { at ≤ 9408 }
-    ensures wrote { Wrote out.old at (event_by Watcher.Totals events [] h []) out.new result }
-    ensures upper_bound { result ≤ 16384 }
-{
-    if h.kind == 32 {
-        return trace_totals::put_heading(out, at, next_event(events), h.refusal);
-    }
-    at
 }
 
 // An event that met a table with these places.
-fn tell_event(
-    which: Watcher,
-    events: u64,
-    places: [Place; 16],
-    h: Happening,
-    report: &[u8],
-    at: usize,
-    out: &mut [u8],
-) -> usize
-    requires { (h.records ≤ records_most) × ((record_length * h.records ≤ length report.now) × Begins which at) }
-    ensures wrote { Wrote out.old at (event_by which events places h report.now) out.new result }
-    ensures upper_bound { result ≤ 16384 }
+fn tell_event(which: Watcher, events: u64, places: &[Place; 16], h: &Happening, report: &[u8], w: &mut Writer<'_>)
+    requires { (h.now.records ≤ records_most) × ((record_length * h.now.records ≤ length report.now) × Begins which w.old.at) }
+    ensures wrote { Writes w.old (event_by which events places.now h.now report.now) w.new }
+    ensures upper_bound { w.new.at ≤ 16384 }
 {
+    let number = events.wrapping_add(1);
     match which {
-        Watcher::Lines => trace_lines::put_line(
-            out, h.kind, h.refusal, h.position, h.records, report,
-        ),
-        Watcher::Records => trace_records::put_event(out, next_event(events), h, report, places),
-        Watcher::Totals => tell_heading(events, h, at, out),
+        Watcher::Lines => w.put_line(h, report),
+        Watcher::Records => trace_records::put_event(w, number, h, report, places),
+        Watcher::Totals => {
+            if h.kind == 32 {
+                trace_totals::put_heading(w, number, h.refusal);
+            }
+        }
     }
 }
 
 // What the front of an input was met as, at a table with these places, behind what was printed before.
-fn tell(
-    which: Watcher,
-    events: u64,
-    places: [Place; 16],
-    m: &[u64; rules::SUMMARY],
-    met: Met,
-    report: &[u8],
-    at: usize,
-    out: &mut [u8],
-) -> usize
-    requires { Fits met report.now × (Begins which at × (stops_at met ≡ true → at ≡ 0)) }
-    ensures wrote { Wrote out.old at (told_by which events places m.now met report.now) out.new result }
-    ensures upper_bound { result ≤ 16384 }
+fn tell(which: Watcher, events: u64, places: &[Place; 16], met: &Met, lent: &Areas<'_>, w: &mut Writer<'_>)
+    requires { Fits met.now lent.now.report.now × (Begins which w.old.at × (stops_at met.now ≡ true → w.old.at ≡ 0)) }
+    ensures wrote { Writes w.old (told_by which events places.now lent.now.summary.now met.now lent.now.report.now) w.new }
+    ensures upper_bound { w.new.at ≤ 16384 }
 {
     match met {
-        Met::Waits => at,
-        Met::Stops => tell_end(which, places, m, true, out),
-        Met::Registers => at,
-        Met::Happens(h) => tell_event(which, events, places, h, report, at, out),
+        Met::Waits => {}
+        Met::Stops => tell_end(which, places, lent.summary, true, w),
+        Met::Registers => {}
+        Met::Happens(h) => tell_event(which, events, places, h, lent.report, w),
     }
 }
 
 // The number of the last event, after what was met.
-fn count(events: u64, met: Met) -> u64
-    ensures { result ≡ count_by events met }
+fn count(events: u64, met: &Met) -> u64
+    ensures { result ≡ count_by events met.now }
 {
-    match met {
-        Met::Waits => events,
-        Met::Stops => events,
-        Met::Registers => events,
-        Met::Happens(_) => next_event(events),
+    if matches!(met, Met::Happens(_)) {
+        events.wrapping_add(1)
+    } else {
+        events
     }
 }
 
 // Whether the trace stops.
-fn stops(met: Met) -> bool
-    ensures { result ≡ stops_at met }
+fn stops(met: &Met) -> bool
+    ensures { result ≡ stops_at met.now }
 {
-    match met {
-        Met::Waits => false,
-        Met::Stops => true,
-        Met::Registers => false,
-        Met::Happens(_) => false,
+    matches!(met, Met::Stops)
+}
+
+// The record at the front of an input, and what is printed of it.
+fn watch(which: Watcher, events: u64, held: &Replay, lent: &mut Areas<'_>, input: &[u8], w: &mut Writer<'_>) -> Progress
+    requires { w.old.at ≡ 0 }
+    ensures of_turn { OfTurn (turned (observer_of which) events held.now (stored_by lent.old) (lent_by lent.old) input.now) w.old.area.now result (stored_by lent.new) (lent_by lent.new) w.new.area.now }
+    ensures used_in_bounds { (result.used ≤ length input.now) × (result.written ≤ 16384) }
+    ensures same { Same lent.old lent.new }
+    ensures same_area { w.new.area.ghost_name ≡ w.old.area.ghost_name }
+{
+    tell_first(which, lent.summary, input, w);
+    let t = trace_turns::turn(held, lent, input);
+    tell(which, events, &held.table.places, &t.met, lent, w);
+    Progress {
+        replay: t.replay,
+        events: count(events, &t.met),
+        used: t.used,
+        written: w.at,
+        ended: stops(&t.met),
     }
 }
 
-// The record at the front of an input: what is printed of it goes to the front of out.
-fn step(
-    which: Watcher,
-    events: u64,
-    held: Replay,
-    m: &mut [u64; rules::SUMMARY],
-    store: &mut [u8],
-    report: &mut [u8],
-    input: &[u8],
-    out: &mut [u8],
-) -> Progress
-    ensures of_turn { OfTurn (turned (observer_of which) events held (stored_of m.old store.old) (lending report.old []) input.now) out.old result (stored_of m.new store.new) (lending report.new []) out.new }
+// The same, to the front of out.
+fn step(which: Watcher, events: u64, held: &Replay, lent: &mut Areas<'_>, input: &[u8], out: &mut [u8]) -> Progress
+    ensures of_turn { OfTurn (turned (observer_of which) events held.now (stored_by lent.old) (lent_by lent.old) input.now) out.old result (stored_by lent.new) (lent_by lent.new) out.new }
     ensures used_in_bounds { (result.used ≤ length input.now) × (result.written ≤ 16384) }
+    ensures same { Same lent.old lent.new }
 {
-    let places = held.table.places;
-    let first = tell_first(which, m, input, out);
-    let w = trace_turns::turn(held, m, store, report, input);
-    let met = w.met;
-    let written = tell(which, events, places, m, met, report, first, out);
-    let replay = w.replay;
-    Progress {
-        replay,
-        events: count(events, met),
-        used: w.used,
-        written,
-        ended: stops(met),
-    }
+    let mut w = Writer { area: out, at: 0 };
+    watch(which, events, held, lent, input, &mut w)
 }
 
 // The records at the front of an input, one after the other, as long as out has room for what is printed of one.
-pub fn block(
+fn run(
     which: Watcher,
     first: u64,
     held: Replay,
-    m: &mut [u64; rules::SUMMARY],
-    store: &mut [u8],
-    report: &mut [u8],
+    lent: &mut Areas<'_>,
     input: &[u8],
     out: &mut [u8],
 ) -> Progress
-    ensures of_turn { OfTurn (runs (observer_of which) (length input.now) (length out.old) first held (stored_of m.old store.old) (lending report.old []) input.now) out.old result (stored_of m.new store.new) (lending report.new []) out.new }
+    ensures of_turn { OfTurn (runs (observer_of which) (length input.now) (length out.old) first held (stored_by lent.old) (lent_by lent.old) input.now) out.old result (stored_by lent.new) (lent_by lent.new) out.new }
     ensures used_in_bounds { (result.used ≤ length input.now) × (result.written ≤ length out.old) }
+    ensures same { Same lent.old lent.new }
 {
     let mut replay = held;
     let mut events = first;
@@ -228,10 +179,8 @@ pub fn block(
         let t = step(
             which,
             events,
-            replay,
-            m,
-            store,
-            report,
+            &replay,
+            lent,
             &input[used..],
             &mut out[written..],
         );
@@ -259,6 +208,28 @@ pub fn block(
     }
 }
 
+// A block of records: those at the front of an input, as many as out has room for.
+pub fn block(
+    which: Watcher,
+    first: u64,
+    held: Replay,
+    m: &mut [u64; rules::SUMMARY],
+    store: &mut [u8],
+    report: &mut [u8],
+    input: &[u8],
+    out: &mut [u8],
+) -> Progress
+    ensures of_turn { OfTurn (runs (observer_of which) (length input.now) (length out.old) first held (stored_of m.old store.old) (lending report.old []) input.now) out.old result (stored_of m.new store.new) (lending report.new []) out.new }
+    ensures used_in_bounds { (result.used ≤ length input.now) × (result.written ≤ length out.old) }
+{
+    let mut lent = Areas {
+        summary: m,
+        store,
+        report,
+    };
+    run(which, first, held, &mut lent, input, out)
+}
+
 // Where the input has ended: what is left of it is a cut record, and stops.
 pub fn ending(
     which: Watcher,
@@ -270,6 +241,7 @@ pub fn ending(
     ensures by_index { (events : ℕ) (store : List ℕ) → Wrote out.old 0 (end_of (observer_of which) events held (stored_of m.now store) left) out.new result }
     ensures upper_bound { result ≤ 16384 }
 {
-    let places = held.table.places;
-    tell_end(which, places, m, left != 0, out)
+    let mut w = Writer { area: out, at: 0 };
+    tell_end(which, &held.table.places, m, left != 0, &mut w);
+    w.at
 }

@@ -1,8 +1,8 @@
 -- An event as the code does it: its call, and the registry records that are kept.
-use Rattle.std.specs.Prelude.{if◌then◌else◌, ℕ, ◌+◌, ◌≡◌, List, ◌∷◌, ltb, take}
+use Rattle.std.specs.Prelude.{if◌then◌else◌, ℕ, ◌+◌, ◌≡◌, List, [], ◌∷◌, ltb, take}
 use Rattle.octets.specs.Splice.{splice}
 use Rattle.rules.specs.Refusals.{nowhere}
-use Rattle.rules.specs.Calls.{State, state_of, Lent, Outcome, step}
+use Rattle.rules.specs.Calls.{State, state_of, Lent, lending, Outcome, step}
 use Rattle.rules.specs.Trace.{Event, call_of, lent_after}
 use Rattle.rules.specs.Trace as trace
 use Rattle.rules.specs.Listing.{decision_in}
@@ -11,6 +11,7 @@ use Rattle.rules.specs.declared.Opened.{Opened}
 use Rattle.rules.specs.declared.Received.{Received}
 use Rattle.rules.specs.declared.Swept.{Swept}
 use Rattle.rules.specs.declared.Decision.TheVariants.{Refused}
+use Rattle.trace_events.specs.declared.Areas.{Areas}
 use Rattle.trace_events.specs.declared.Replay.{Replay}
 
 -- what a replay hands on beside the table, lent: the summary and the store
@@ -27,6 +28,17 @@ stored_in st = stored_of st.summary st.store
 abbrev pub state_with : Table → Stored → State
 state_with t k = state_of t k.summary k.store
 
+-- .. as they are lent, and the areas beside them
+abbrev pub stored_by : Areas → Stored
+stored_by a = stored_of a.summary.now a.store.now
+
+abbrev pub lent_by : Areas → Lent
+lent_by a = lending a.report.now []
+
+-- the same areas, whatever they hold
+abbrev pub Same : Areas → Areas → Type 0
+Same a b = (b.summary.ghost_name ≡ a.summary.ghost_name) × (b.store.ghost_name ≡ a.store.ghost_name) × (b.report.ghost_name ≡ a.report.ghost_name)
+
 -- the registry as kept
 abbrev pub registry_of : Replay → List ℕ
 registry_of held = take held.length held.registry
@@ -37,11 +49,14 @@ replay_of held store lent =
     record { registry = registry_of held; begun = held.begun; state = state_with held.table store; lent = lent }
 
 -- the answers of calls that decide nothing
+abbrev pub answer_undecided : Table → ℕ → ℕ → Received
+answer_undecided table refusal records = record { table = table; decision = Refused; position = nowhere; refusal = refusal; records = records; timeouts = 0 }
+
 abbrev pub answer_opened : Opened → Received
-answer_opened o = record { table = o.table; decision = Refused; position = nowhere; refusal = o.refusal; records = 0; timeouts = 0 }
+answer_opened o = answer_undecided o.table o.refusal 0
 
 abbrev pub answer_swept : Swept → Received
-answer_swept o = record { table = o.table; decision = Refused; position = nowhere; refusal = o.refusal; records = o.records; timeouts = 0 }
+answer_swept o = answer_undecided o.table o.refusal o.records
 
 -- what an event does is the rules' own step
 abbrev pub step_of : Replay → Stored → Lent → Event → Outcome

@@ -35,83 +35,62 @@ pub struct Happening {
     pub timeouts: u8,
 }
 
-// A record of a trace.
-#[derive(Clone, Copy)]
-pub enum Item {
-    Registers,
-    Happens(Event),
-}
-
-// How long a record's body is.
-#[derive(Clone, Copy)]
-pub enum Body {
-    Of(usize),
-    Unknown,
-}
-
-// The length of a record's body, by its kind.
-pub fn body_length(kind: u8) -> Body
+// The length of a record's body, by its kind, where the kind is known.
+pub fn body_length(kind: u8) -> Option<usize>
     ensures { result ≡ body_of kind }
 {
     match kind {
-        1 | 2 | 35 => Body::Of(2),
-        32 => Body::Of(8),
-        33 => Body::Of(262),
-        34 => Body::Of(4),
-        0 | 3..=31 | 36..=255 => Body::Unknown,
+        1 | 2 | 35 => Some(2),
+        32 => Some(8),
+        33 => Some(262),
+        34 => Some(4),
+        _ => None,
     }
 }
 
-// The number in two octets of a body, from an index on.
-fn pair(body: &[u8], at: usize) -> u16
-    requires { at + 2 ≤ length body.now }
-    ensures { result ≡ number (take 2 (drop at body.now)) }
+// So many octets of a body, from an index on.
+fn octets_at<const N: usize>(body: &[u8], at: usize) -> [u8; N]
+    requires { at + N ≤ length body.now }
+    ensures { result ≡ take N (drop at body.now) }
 {
-    octets::number2(body[at], body[at + 1])
+    let mut octets = [0; N];
+    octets.copy_from_slice(&body[at..at + N]);
+    octets
 }
 
-// The number in four octets of a body, from an index on.
-fn word(body: &[u8], at: usize) -> u32
-    requires { at + 4 ≤ length body.now }
-    ensures { result ≡ number (take 4 (drop at body.now)) }
-{
-    octets::number4(body[at], body[at + 1], body[at + 2], body[at + 3])
-}
-
-// A whole record's item, by its kind.
-pub fn item_of(kind: u8, body: &[u8]) -> Item
+// A whole record's event, by its kind; none where it is a registry record.
+#[tactic(auto, using(crate::proofs::Reading::pair_at, crate::proofs::Reading::word_at))]
+pub fn item_of(kind: u8, body: &[u8]) -> Option<Event>
     requires { length body.now ≡ body_length kind }
     ensures { item_meant result kind body.now ≡ item_of kind body.now }
 {
     match kind {
-        32 => Item::Happens(Event::Open {
-            timer: word(body, 0),
-            clock: word(body, 4),
+        32 => Some(Event::Open {
+            timer: u32::from_be_bytes(octets_at(body, 0)),
+            clock: u32::from_be_bytes(octets_at(body, 4)),
         }),
-        33 => Item::Happens(Event::Segment {
-            time: word(body, 0),
-            association: pair(body, 4),
+        33 => Some(Event::Segment {
+            time: u32::from_be_bytes(octets_at(body, 0)),
+            association: u16::from_be_bytes(octets_at(body, 4)),
             length: body[6],
         }),
-        34 => Item::Happens(Event::Clock(word(body, 0))),
-        35 => Item::Happens(Event::Release(pair(body, 0))),
+        34 => Some(Event::Clock(u32::from_be_bytes(octets_at(body, 0)))),
+        35 => Some(Event::Release(u16::from_be_bytes(octets_at(body, 0)))),
         // 1 and 2 are left: a kind that is not known has no length, so that it never comes here
-        0..=31 | 36..=255 => Item::Registers,
+        _ => None,
     }
 }
 
 // The kind of an event's record.
-pub fn kind_of(e: Event) -> u8
-    ensures { result ≡ kind_for e }
-{
-    match e {
-        Event::Open { timer: _, clock: _ } => 32,
-        Event::Segment {
-            time: _,
-            association: _,
-            length: _,
-        } => 33,
-        Event::Clock(_) => 34,
-        Event::Release(_) => 35,
+impl From<Event> for u8 {
+    ghost from_gives = { λ e n. n ≡ kind_for e };
+
+    fn from(e: Event) -> u8 {
+        match e {
+            Event::Open { .. } => 32,
+            Event::Segment { .. } => 33,
+            Event::Clock(_) => 34,
+            Event::Release(_) => 35,
+        }
     }
 }

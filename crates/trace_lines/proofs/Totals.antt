@@ -23,6 +23,13 @@ record-there l at kind =
     let s : (n : ℕ) → n + 0 ≡ n = λ n. omega arith in
     rw (octet-there l at 0 (omega arith), z, octet-there l at 9 (omega arith), octet-there l at 10 (omega arith)) (s _)
 
+-- .. and a record by itself
+pub record_counts : (l : List ℕ) (kind : ℕ) → octets_of kind (record_from l ∷ []) ≡ (if eqb (get_or l 0 0) kind then number (get_or l 9 0 ∷ get_or l 10 0 ∷ []) else 0)
+unfolding record_from
+record_counts l kind =
+    let s : (n : ℕ) → n + 0 ≡ n = λ n. omega arith in
+    s _
+
 pub total-next : (l : List ℕ) (kind n i : ℕ) → i < n → octets_of kind (records_from (n - i) (drop (record_length * i) l))
     ≡ octets_of kind (record_from (take record_length (drop (record_length * i) l)) ∷ []) + octets_of kind (records_from (n - (i + 1)) (drop (record_length * (i + 1)) l))
 total-next l kind n i h =

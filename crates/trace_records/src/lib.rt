@@ -2,25 +2,26 @@
 #![tactic(auto)]
 
 ghost use Rattle.std.specs.Prelude.{◌≡◌, [], ◌∷◌, ◌+◌, ◌*◌, ◌≤◌, length, take, drop};
-ghost use Rattle.octets.specs.Splice.{Wrote};
 ghost use Rattle.rules.specs.Numbers.{place_count};
 ghost use Rattle.rules.specs.Places.{is_open};
 ghost use Rattle.rules.specs.Records.{record_length, recorded_at, record_from, records_from};
 ghost use Rattle.rules.specs.Sweep.{loss_of};
 ghost use Rattle.rules.specs.Arrival.{records_most, arrival_least};
 ghost use Rattle.rules.specs.Listing.{hex_digit, hex_of, address_word, record_line, record_word, record_lines, open_lines, end_word, held_word};
+ghost use Rattle.trace_lines.specs.Writers.{Writes};
 ghost use Rattle.trace_records.specs.Listing.{line_most, event_most, named_fields, count_fields, timeouts_for, line_for, listing_for, end_for};
 
 use rules::{Address, Context, Decision, Key, Place, Record, Reference};
 use trace_items::Happening;
+use trace_lines::Writer;
 
 // The address that a record has at a position.
 fn address_in(l: &[u8], at: usize) -> Address
     requires { (at ≤ 100) × (at + 21 ≤ length l.now) }
     ensures { result ≡ recorded_at l.now at }
 {
-    let mut octets = [0; 20];
-    octets::put(&mut octets, octets::part(l, at + 1, 20));
+    let mut octets = [0; rules::ADDRESS];
+    octets.copy_from_slice(&l[at + 1..at + 21]);
     Address {
         octets,
         length: l[at],
@@ -51,7 +52,7 @@ fn record_of(l: &[u8]) -> Record
     }
 }
 
-// A digit in hex.
+// A digit in hex, a capital letter from ten on.
 fn hex_digit(x: u8) -> u8
     requires { x ≤ 15 }
     ensures { result ≡ hex_digit x }
@@ -63,222 +64,198 @@ fn hex_digit(x: u8) -> u8
 }
 
 // An octet in hex, two digits.
-fn put_pair(out: &mut [u8], at: usize, x: u8) -> usize
-    requires { at ≤ 65000 }
-    ensures { Wrote out.old at (hex_of (x ∷ [])) out.new result }
+fn put_pair(w: &mut Writer<'_>, x: u8)
+    requires { w.old.at ≤ 65000 }
+    ensures { Writes w.old (hex_of (x ∷ [])) w.new }
 {
-    let next = trace_lines::put_octet(out, at, hex_digit(x / 16));
-    trace_lines::put_octet(out, next, hex_digit(x % 16))
+    w.put_octet(hex_digit(x / 16));
+    w.put_octet(hex_digit(x % 16));
 }
 
 // Octets in hex.
-fn put_hex(out: &mut [u8], at: usize, octets: &[u8]) -> usize
-    requires { (at ≤ 60000) × (length octets.now ≤ 20) }
-    ensures wrote { Wrote out.old at (hex_of octets.now) out.new result }
-    ensures upper_bound { result ≤ at + 40 }
+fn put_hex(w: &mut Writer<'_>, octets: &[u8])
+    requires { (w.old.at ≤ 60000) × (length octets.now ≤ 20) }
+    ensures wrote { Writes w.old (hex_of octets.now) w.new }
+    ensures upper_bound { w.new.at ≤ w.old.at + 40 }
 {
-    let mut next = at;
-    let mut i = 0;
-    while i < octets.len() {
-        next = put_pair(out, next, octets[i]);
-        i += 1;
+    for x in octets {
+        put_pair(w, *x);
     }
-    next
 }
 
 // A space, and an address or a dash: its octets, as many as its length says.
-fn put_address(out: &mut [u8], at: usize, a: Address) -> usize
-    requires { at ≤ 50000 }
-    ensures wrote { Wrote out.old at (32 ∷ address_word a) out.new result }
-    ensures upper_bound { result ≤ at + 41 }
+fn put_address(w: &mut Writer<'_>, a: &Address)
+    requires { w.old.at ≤ 50000 }
+    ensures wrote { Writes w.old (32 ∷ address_word a.now) w.new }
+    ensures upper_bound { w.new.at ≤ w.old.at + 41 }
 {
-    let next = trace_lines::put_octet(out, at, 32);
-    let n = a.length as usize;
-    if n == 0 {
-        return trace_lines::put_octet(out, next, 45);
+    if a.length == 0 {
+        w.put_word(b" -");
+    } else {
+        w.put_octet(32);
+        put_hex(w, octets::part(&a.octets, 0, usize::from(a.length)));
     }
-    let octets = a.octets;
-    put_hex(out, next, octets::part(&octets, 0, n))
 }
 
 // A word, and what names a sequence but for its addresses.
-fn put_named(out: &mut [u8], at: usize, word: &[u8], key: Key) -> usize
-    requires { (at ≤ 10000) × (length word.now ≤ 9) }
-    ensures wrote { Wrote out.old at (named_fields word.now key) out.new result }
-    ensures upper_bound { result ≤ at + 72 }
+fn put_named(w: &mut Writer<'_>, word: &[u8], key: &Key)
+    requires { (w.old.at ≤ 10000) × (length word.now ≤ 9) }
+    ensures wrote { Writes w.old (named_fields word.now key.now) w.new }
+    ensures upper_bound { w.new.at ≤ w.old.at + 72 }
 {
-    let a = trace_lines::put_word(out, at, word);
-    let b = trace_lines::put_field(out, a, key.association as u64);
-    let c = trace_lines::put_field(out, b, key.context.0 as u64);
-    trace_lines::put_unless(out, c, 255, key.reference.0 as u64)
+    w.put_word(word);
+    w.put_field(u64::from(key.association));
+    w.put_field(u64::from(key.context.0));
+    w.put_unless(255, u64::from(key.reference.0));
 }
 
 // What a record says of its sequence: instruction, cause, segments and octets.
-fn put_counts(out: &mut [u8], at: usize, r: Record) -> usize
-    requires { at ≤ 20000 }
-    ensures wrote { Wrote out.old at (count_fields r) out.new result }
-    ensures upper_bound { result ≤ at + 84 }
+fn put_counts(w: &mut Writer<'_>, r: &Record)
+    requires { w.old.at ≤ 20000 }
+    ensures wrote { Writes w.old (count_fields r.now) w.new }
+    ensures upper_bound { w.new.at ≤ w.old.at + 84 }
 {
-    let a = trace_lines::put_field(out, at, r.instruction as u64);
-    let b = trace_lines::put_field(out, a, r.cause as u64);
-    let c = trace_lines::put_field(out, b, r.segments as u64);
-    trace_lines::put_field(out, c, r.octets as u64)
+    w.put_field(u64::from(r.instruction));
+    w.put_field(u64::from(r.cause));
+    w.put_field(u64::from(r.segments));
+    w.put_field(u64::from(r.octets));
 }
 
 // A record's line, behind a word.
-fn put_record(out: &mut [u8], at: usize, word: &[u8], r: Record) -> usize
-    requires { (at ≤ 10000) × (length word.now ≤ 9) }
-    ensures wrote { Wrote out.old at (record_line word.now r) out.new result }
-    ensures upper_bound { result ≤ at + line_most }
+fn put_record(w: &mut Writer<'_>, word: &[u8], r: &Record)
+    requires { (w.old.at ≤ 10000) × (length word.now ≤ 9) }
+    ensures wrote { Writes w.old (record_line word.now r.now) w.new }
+    ensures upper_bound { w.new.at ≤ w.old.at + line_most }
 {
-    let key = r.key;
-    let a = put_named(out, at, word, key);
-    let b = put_counts(out, a, r);
-    let origin = key.origin;
-    let c = put_address(out, b, origin);
-    let destination = key.destination;
-    let d = put_address(out, c, destination);
-    trace_lines::put_octet(out, d, 10)
+    put_named(w, word, &r.key);
+    put_counts(w, r);
+    put_address(w, &r.key.origin);
+    put_address(w, &r.key.destination);
+    w.put_octet(10);
 }
 
-// The line of the record that begins at an index of a report.
-fn put_told(out: &mut [u8], at: usize, report: &[u8], from: usize) -> usize
-    requires { (at ≤ 10000) × ((from ≤ arrival_least) × (from + record_length ≤ length report.now)) }
-    ensures wrote { Wrote out.old at (record_lines (record_from (take record_length (drop from report.now)) ∷ [])) out.new result }
-    ensures upper_bound { result ≤ at + line_most }
+// The line of a record of a report.
+fn put_told(w: &mut Writer<'_>, from: &[u8])
+    requires { (w.old.at ≤ 10000) × (length from.now ≡ record_length) }
+    ensures wrote { Writes w.old (record_lines (record_from from.now ∷ [])) w.new }
+    ensures upper_bound { w.new.at ≤ w.old.at + line_most }
 {
-    let r = record_of(octets::part(report, from, rules::RECORD));
+    let r = record_of(from);
     if r.kind == rules::DELIVERED {
-        return put_record(out, at, b"delivered", r);
+        put_record(w, b"delivered", &r);
+    } else {
+        put_record(w, b"lost", &r);
     }
-    put_record(out, at, b"lost", r)
 }
 
 // The lines of the first n records of a report.
-fn put_records(out: &mut [u8], at: usize, report: &[u8], n: usize) -> usize
-    requires { (at ≤ 1000) × ((n ≤ records_most) × (record_length * n ≤ length report.now)) }
-    ensures wrote { Wrote out.old at (record_lines (records_from n report.now)) out.new result }
-    ensures upper_bound { result ≤ at + line_most * n }
+fn put_records(w: &mut Writer<'_>, report: &[u8], n: usize)
+    requires { (w.old.at ≤ 1000) × ((n ≤ records_most) × (record_length * n ≤ length report.now)) }
+    ensures wrote { Writes w.old (record_lines (records_from n report.now)) w.new }
+    ensures upper_bound { w.new.at ≤ w.old.at + line_most * n }
 {
-    let mut next = at;
-    let mut i = 0;
-    while i < n {
-        next = put_told(out, next, report, rules::RECORD * i);
-        i += 1;
+    for i in 0..n {
+        put_told(w, octets::part(report, rules::RECORD * i, rules::RECORD));
     }
-    next
 }
 
 // The line of a place, where it is open: the fields that a loss of its sequence would have, and cause 0.
-fn put_place(out: &mut [u8], at: usize, word: &[u8], p: Place) -> usize
-    requires { (at ≤ 10000) × (length word.now ≤ 9) }
-    ensures wrote { Wrote out.old at (open_lines word.now (p ∷ [])) out.new result }
-    ensures upper_bound { result ≤ at + line_most }
+fn put_place(w: &mut Writer<'_>, word: &[u8], p: &Place)
+    requires { (w.old.at ≤ 10000) × (length word.now ≤ 9) }
+    ensures wrote { Writes w.old (open_lines word.now (p.now ∷ [])) w.new }
+    ensures upper_bound { w.new.at ≤ w.old.at + line_most }
 {
     if p.mark != 1 {
-        return at;
+        return;
     }
-    let key = p.key;
     let r = Record {
-        key,
+        key: p.key,
         octets: p.octets,
         kind: rules::LOST,
         instruction: p.instruction,
         cause: 0,
         segments: p.segments,
     };
-    put_record(out, at, word, r)
+    put_record(w, word, &r);
 }
 
 // The lines of the open places.
-fn put_open(out: &mut [u8], at: usize, word: &[u8], places: [Place; 16]) -> usize
-    requires { (at ≤ 5000) × (length word.now ≤ 9) }
-    ensures wrote { Wrote out.old at (open_lines word.now places) out.new result }
-    ensures upper_bound { result ≤ at + line_most * place_count }
+fn put_open(w: &mut Writer<'_>, word: &[u8], places: &[Place; 16])
+    requires { (w.old.at ≤ 5000) × (length word.now ≤ 9) }
+    ensures wrote { Writes w.old (open_lines word.now places.now) w.new }
+    ensures upper_bound { w.new.at ≤ w.old.at + line_most * place_count }
 {
-    let mut next = at;
-    let mut i = 0;
-    while i < rules::PLACES {
-        let p = places[i];
-        next = put_place(out, next, word, p);
-        i += 1;
+    for p in places {
+        put_place(w, word, p);
     }
-    next
 }
 
 // What became of an event.
-fn put_decision(out: &mut [u8], at: usize, refusal: u8, decision: Decision) -> usize
-    requires { at ≤ 10000 }
-    ensures wrote { Wrote out.old at (end_word refusal decision) out.new result }
-    ensures upper_bound { result ≤ at + 28 }
+fn put_decision(w: &mut Writer<'_>, refusal: u8, decision: Decision)
+    requires { w.old.at ≤ 10000 }
+    ensures wrote { Writes w.old (end_word refusal decision) w.new }
+    ensures upper_bound { w.new.at ≤ w.old.at + 28 }
 {
     if refusal != 0 {
-        let word = trace_lines::put_word(out, at, b"refused");
-        return trace_lines::put_field(out, word, refusal as u64);
+        w.put_word(b"refused");
+        return w.put_field(u64::from(refusal));
     }
     match decision {
-        Decision::Refused => trace_lines::put_octet(out, at, 45),
+        Decision::Refused => w.put_octet(45),
         Decision::Saved(p) => {
-            let word = trace_lines::put_word(out, at, b"saved");
-            trace_lines::put_field(out, word, p as u64)
+            w.put_word(b"saved");
+            // As it was: u64 has no From for usize (iv).
+            w.put_field(p as u64)
         }
-        Decision::Delivered(_) => trace_lines::put_word(out, at, b"delivered"),
-        Decision::Lost(_, _) => trace_lines::put_word(out, at, b"lost"),
+        Decision::Delivered(_) => w.put_word(b"delivered"),
+        Decision::Lost(_, _) => w.put_word(b"lost"),
     }
 }
 
 // Of a segment's line, how many of its records are the clock's.
-fn put_timeouts(out: &mut [u8], at: usize, kind: u8, timeouts: u8) -> usize
-    requires { at ≤ 10000 }
-    ensures wrote { Wrote out.old at (timeouts_for kind timeouts) out.new result }
-    ensures upper_bound { result ≤ at + 21 }
+fn put_timeouts(w: &mut Writer<'_>, h: &Happening)
+    requires { w.old.at ≤ 10000 }
+    ensures wrote { Writes w.old (timeouts_for h.now.kind h.now.timeouts) w.new }
+    ensures upper_bound { w.new.at ≤ w.old.at + 21 }
 {
-    if kind == 33 {
-        return trace_lines::put_field(out, at, timeouts as u64);
+    if h.kind == 33 {
+        w.put_field(u64::from(h.timeouts));
     }
-    at
 }
 
 // An event's line, with its number.
-fn put_line(out: &mut [u8], number: u64, h: Happening, report: &[u8]) -> usize
-    requires { (h.records ≤ records_most) × (record_length * h.records ≤ length report.now) }
-    ensures wrote { Wrote out.old 0 (line_for number h report.now) out.new result }
-    ensures upper_bound { result ≤ event_most }
+fn put_line(w: &mut Writer<'_>, number: u64, h: &Happening, report: &[u8])
+    requires { (w.old.at ≤ 0) × ((h.now.records ≤ records_most) × (record_length * h.now.records ≤ length report.now)) }
+    ensures wrote { Writes w.old (line_for number h.now report.now) w.new }
+    ensures upper_bound { w.new.at ≤ event_most }
 {
-    let decision = h.decision;
-    let a = trace_lines::put_fields(out, h.kind, h.refusal, h.position, h.records, report);
-    let b = trace_lines::put_field(out, a, number);
-    let c = put_timeouts(out, b, h.kind, h.timeouts);
-    let d = trace_lines::put_octet(out, c, 32);
-    let e = put_decision(out, d, h.refusal, decision);
-    trace_lines::put_octet(out, e, 10)
+    w.put_fields(h, report);
+    w.put_field(number);
+    put_timeouts(w, h);
+    w.put_octet(32);
+    put_decision(w, h.refusal, h.decision);
+    w.put_octet(10);
 }
 
 // All that is printed of an event: its line, its records, and what an opening drops of the places before it.
-pub fn put_event(
-    out: &mut [u8],
-    number: u64,
-    h: Happening,
-    report: &[u8],
-    places: [Place; 16],
-) -> usize
-    requires { (h.records ≤ records_most) × (record_length * h.records ≤ length report.now) }
-    ensures wrote { Wrote out.old 0 (listing_for number h report.now places) out.new result }
-    ensures upper_bound { result ≤ 9000 }
+pub fn put_event(w: &mut Writer<'_>, number: u64, h: &Happening, report: &[u8], places: &[Place; 16])
+    requires { (w.old.at ≤ 0) × ((h.now.records ≤ records_most) × (record_length * h.now.records ≤ length report.now)) }
+    ensures wrote { Writes w.old (listing_for number h.now report.now places.now) w.new }
+    ensures upper_bound { w.new.at ≤ 9000 }
 {
-    let line = put_line(out, number, h, report);
-    let told = put_records(out, line, report, h.records as usize);
+    put_line(w, number, h, report);
+    put_records(w, report, usize::from(h.records));
     if h.kind == 32 {
-        return put_open(out, told, b"dropped", places);
+        put_open(w, b"dropped", places);
     }
-    told
 }
 
 // The end: what is held, and where the trace stops, the line that says so.
-pub fn put_end(out: &mut [u8], places: [Place; 16], stops: bool) -> usize
-    ensures wrote { Wrote out.old 0 (end_for places «stops») out.new result }
-    ensures upper_bound { result ≤ 8000 }
+pub fn put_end(w: &mut Writer<'_>, places: &[Place; 16], stops: bool)
+    requires { w.old.at ≤ 0 }
+    ensures wrote { Writes w.old (end_for places.now «stops») w.new }
+    ensures upper_bound { w.new.at ≤ 8000 }
 {
-    let held = put_open(out, 0, b"held", places);
-    trace_lines::put_end(out, held, stops)
+    put_open(w, b"held", places);
+    w.put_end(stops);
 }

@@ -1,86 +1,68 @@
 // The lines of the program totals, written into a lent area: an opening's heading, and a line for each used row of a summary.
 #![tactic(auto)]
 
-ghost use Rattle.std.specs.Prelude.{if◌then◌else◌, ◌≡◌, [], ◌++◌, ◌+◌, ◌≤◌, ◌<◌};
-ghost use Rattle.octets.specs.Splice.{Wrote};
-ghost use Rattle.rules.specs.Summary.{is_used};
+ghost use Rattle.std.specs.Prelude.{◌++◌, ◌+◌, ◌≤◌, ◌<◌};
 ghost use Rattle.rules.specs.Lines.{stop_if};
 ghost use Rattle.rules.specs.Totalling.{heading_line, row_line, row_lines};
+ghost use Rattle.trace_lines.specs.Writers.{Writes};
 ghost use Rattle.trace_totals.specs.Pairs.{pair_of};
 
+use trace_lines::Writer;
+
 // A row's numbers in a column and the next, each behind a space.
-fn put_pair(
-    out: &mut [u8],
-    at: usize,
-    m: &[u64; rules::SUMMARY],
-    column: usize,
-    row: usize,
-) -> usize
-    requires { (at ≤ 50000) × ((column < 7) × (row < 64)) }
-    ensures wrote { Wrote out.old at (pair_of m.now column row) out.new result }
-    ensures upper_bound { result ≤ at + 42 }
+fn put_pair(w: &mut Writer<'_>, m: &[u64; rules::SUMMARY], column: usize, row: usize)
+    requires { (w.old.at ≤ 50000) × ((column < 7) × (row < 64)) }
+    ensures wrote { Writes w.old (pair_of m.now column row) w.new }
+    ensures upper_bound { w.new.at ≤ w.old.at + 42 }
 {
-    let next = trace_lines::put_field(out, at, m[64 * column + row]);
-    trace_lines::put_field(out, next, m[64 * (column + 1) + row])
+    w.put_field(m[64 * column + row]);
+    w.put_field(m[64 * (column + 1) + row]);
 }
 
 // A row's line: its association, then segments and octets, taken, delivered, lost.
-fn put_row(out: &mut [u8], at: usize, m: &[u64; rules::SUMMARY], row: usize) -> usize
-    requires { (at ≤ 20000) × (row < 64) }
-    ensures wrote { Wrote out.old at (row_line m.now row) out.new result }
-    ensures upper_bound { result ≤ at + 147 }
+fn put_row(w: &mut Writer<'_>, m: &[u64; rules::SUMMARY], row: usize)
+    requires { (w.old.at ≤ 20000) × (row < 64) }
+    ensures wrote { Writes w.old (row_line m.now row) w.new }
+    ensures upper_bound { w.new.at ≤ w.old.at + 147 }
 {
-    let name = trace_lines::put_number(out, at, m[64 + row]);
-    let taken = put_pair(out, name, m, 2, row);
-    let delivered = put_pair(out, taken, m, 4, row);
-    let lost = put_pair(out, delivered, m, 6, row);
-    trace_lines::put_octet(out, lost, 10)
-}
-
-// A row's line, where the row is used.
-fn put_used(out: &mut [u8], at: usize, m: &[u64; rules::SUMMARY], row: usize) -> usize
-    requires { (at ≤ 20000) × (row < 64) }
-    ensures wrote { Wrote out.old at (if is_used m.now row then row_line m.now row else []) out.new result }
-    ensures upper_bound { result ≤ at + 147 }
-{
-    if m[0 + row] == 1 {
-        return put_row(out, at, m, row);
-    }
-    at
+    w.put_number(m[64 + row]);
+    put_pair(w, m, 2, row);
+    put_pair(w, m, 4, row);
+    put_pair(w, m, 6, row);
+    w.put_octet(10);
 }
 
 // The lines of the used rows.
-pub fn put_rows(out: &mut [u8], at: usize, m: &[u64; rules::SUMMARY]) -> usize
-    requires { at ≤ 1000 }
-    ensures wrote { Wrote out.old at (row_lines m.now) out.new result }
-    ensures upper_bound { result ≤ at + 9408 }
+pub fn put_rows(w: &mut Writer<'_>, m: &[u64; rules::SUMMARY])
+    requires { w.old.at ≤ 1000 }
+    ensures wrote { Writes w.old (row_lines m.now) w.new }
+    ensures upper_bound { w.new.at ≤ w.old.at + 9408 }
 {
-    let mut next = at;
-    let mut i = 0;
-    while i < rules::ROWS {
-        next = put_used(out, next, m, i);
-        i += 1;
+    for row in 0..rules::ROWS {
+        if m[row] == 1 {
+            put_row(w, m, row);
+        }
     }
-    next
 }
 
 // An opening's heading: its number among the events, and its refusal or 0.
-pub fn put_heading(out: &mut [u8], at: usize, number: u64, refusal: u8) -> usize
-    requires { at ≤ 20000 }
-    ensures wrote { Wrote out.old at (heading_line number refusal) out.new result }
-    ensures upper_bound { result ≤ at + 50 }
+pub fn put_heading(w: &mut Writer<'_>, number: u64, refusal: u8)
+    requires { w.old.at ≤ 20000 }
+    ensures wrote { Writes w.old (heading_line number refusal) w.new }
+    ensures upper_bound { w.new.at ≤ w.old.at + 50 }
 {
-    let word = trace_lines::put_word(out, at, b"opening");
-    let named = trace_lines::put_field(out, word, number);
-    let judged = trace_lines::put_field(out, named, refusal as u64);
-    trace_lines::put_octet(out, judged, 10)
+    w.put_word(b"opening");
+    w.put_field(number);
+    w.put_field(u64::from(refusal));
+    w.put_octet(10);
 }
 
 // The end: the lines of the used rows, and where the trace stops, the line that says so.
-pub fn put_end(out: &mut [u8], m: &[u64; rules::SUMMARY], stops: bool) -> usize
-    ensures wrote { Wrote out.old 0 (row_lines m.now ++ stop_if «stops») out.new result }
-    ensures upper_bound { result ≤ 16000 }
+pub fn put_end(w: &mut Writer<'_>, m: &[u64; rules::SUMMARY], stops: bool)
+    requires { w.old.at ≤ 1000 }
+    ensures wrote { Writes w.old (row_lines m.now ++ stop_if «stops») w.new }
+    ensures upper_bound { w.new.at ≤ w.old.at + 9413 }
 {
-    let rows = put_rows(out, 0, m);
-    trace_lines::put_end(out, rows, stops)
+    put_rows(w, m);
+    w.put_end(stops);
 }

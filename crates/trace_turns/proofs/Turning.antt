@@ -1,5 +1,5 @@
 -- The record at the front of an input, by its kind and its length.
-use Rattle.std.specs.Prelude.{if◌then◌else◌}
+use Rattle.std.specs.Prelude.{if◌then◌else◌, Option, Some, None}
 use Prim.Native.Nat.{ℕ, ◌+◌, ◌-◌, ◌≤◌, ◌<◌}
 use mathlib.Core.Path.{◌≡◌, refl}
 use mathlib.Core.Bool.{Bool, true, false}
@@ -11,21 +11,20 @@ use lib.Seq.{length-take-le}
 use Rattle.rules.specs.Calls.{Lent}
 use Rattle.rules.specs.Trace.{is_known, body_length, item_of}
 use Rattle.trace_items.specs.Reading.{body_of}
-use Rattle.trace_items.specs.declared.Body.TheVariants.{Of, Unknown}
 use Rattle.trace_events.specs.Events.{Stored}
 use Rattle.trace_events.specs.declared.Replay.{Replay}
 use Rattle.trace_turns.specs.Turns.{Front, OfWalk, met_of, still, staying, waiting, stopping, at_item, walked}
 use Rattle.trace_turns.specs.declared.Walk.{Walk}
 
 -- a kind that has a body is known, and has that body; one that has none is not
-known-if : (kind n : ℕ) (b : Bool) → is_known kind ≡ b → (if b then Of (body_length kind) else Unknown) ≡ Of n → (is_known kind ≡ true) × (n ≡ body_length kind)
+known-if : (kind n : ℕ) (b : Bool) → is_known kind ≡ b → (if b then Some (body_length kind) else None) ≡ Some n → (is_known kind ≡ true) × (n ≡ body_length kind)
 known-if kind n true k e = (k, cc)
 known-if kind n false k e = let z : ◌≡◌ {A = ℕ} 0 1 = cc in let y : ⊥ = omega arith in absurd y
 
-pub known_is : (kind n : ℕ) → body_of kind ≡ Of n → (is_known kind ≡ true) × (n ≡ body_length kind)
+pub known_is : (kind n : ℕ) → body_of kind ≡ Some n → (is_known kind ≡ true) × (n ≡ body_length kind)
 known_is kind n e = known-if kind n (is_known kind) refl e
 
-unknown-is : (b : Bool) (n : ℕ) → (if b then Of n else Unknown) ≡ Unknown → b ≡ false
+unknown-is : (b : Bool) (n : ℕ) → (if b then Some n else None) ≡ None → b ≡ false
 unknown-is true n e = cc
 unknown-is false n e = refl
 
@@ -39,17 +38,17 @@ module _ (held : Replay) (store : Stored) (lent : Lent) where
   walked_none [] e = refl
   walked_none (kind ∷ l) e = let z : ⊥ = omega arith in absurd z
 
-  pub walked-unknown : (input : List ℕ) → (length input ≡ 0 → ⊥) → body_of (get_or input 0 0) ≡ Unknown → walked held store lent input ≡ stopping held store lent
+  pub walked-unknown : (input : List ℕ) → (length input ≡ 0 → ⊥) → body_of (get_or input 0 0) ≡ None → walked held store lent input ≡ stopping held store lent
   unfolding walked
   walked-unknown [] h e = absurd (h refl)
   walked-unknown (kind ∷ l) h e = simp (unknown-is (is_known kind) (body_length kind) e)
 
-  pub walked-short : (input : List ℕ) (n : ℕ) → (length input ≡ 0 → ⊥) → body_of (get_or input 0 0) ≡ Of n → length input - 1 < n → walked held store lent input ≡ waiting held store lent
+  pub walked-short : (input : List ℕ) (n : ℕ) → (length input ≡ 0 → ⊥) → body_of (get_or input 0 0) ≡ Some n → length input - 1 < n → walked held store lent input ≡ waiting held store lent
   unfolding walked
   walked-short [] n there e h = absurd (there refl)
   walked-short (kind ∷ l) n there e h = let k = known_is kind n e in simp (k.0, lt-ltb (length l) (body_length kind) (omega arith))
 
-  pub walked-known : (input : List ℕ) (n : ℕ) → (length input ≡ 0 → ⊥) → body_of (get_or input 0 0) ≡ Of n → n ≤ length input - 1
+  pub walked-known : (input : List ℕ) (n : ℕ) → (length input ≡ 0 → ⊥) → body_of (get_or input 0 0) ≡ Some n → n ≤ length input - 1
       → walked held store lent input ≡ at_item held store lent (item_of (get_or input 0 0) (take n (drop 1 input))) (1 + body_length (get_or input 0 0))
   unfolding walked
   walked-known [] n there e h = absurd (there refl)

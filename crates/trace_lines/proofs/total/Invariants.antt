@@ -7,7 +7,4 @@ use Rattle.trace_lines.proofs.total.Given as goal
 
 -- What is left of the report gives the rest of the sum.
 abbrev pub invariant-loop-i : goal.invariant-loop-i
-invariant-loop-i l = (l.i ≤ l.n) × (l.sum ≤ 65535 * l.i) × (octets_of l.kind (records_from l.n l.report) ≡ l.sum + octets_of l.kind (records_from (l.n - l.i) (drop (record_length * l.i) l.report)))
-
-abbrev pub decreases-loop-i : goal.decreases-loop-i
-decreases-loop-i l = l.n - l.i
+invariant-loop-i l = (l.sum ≤ 65535 * l.i) × (octets_of l.kind (records_from l.n l.report) ≡ l.sum + octets_of l.kind (records_from (l.n - l.i) (drop (record_length * l.i) l.report)))

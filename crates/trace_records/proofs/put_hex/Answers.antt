@@ -4,18 +4,12 @@ use Rattle.trace_records.proofs.Writing.{writing-starts, writing-on, writing-end
 use Rattle.trace_records.proofs.Listing.{hex-next}
 use Rattle.trace_records.proofs.put_hex.Goals as goal
 
-pub loop-i-init : goal.loop-i-init
-loop-i-init c = record { within = omega arith; near = omega arith; writing = writing-starts _ _ _ }
+pub loop-x-init : goal.loop-x-init
+loop-x-init c = record { near = omega arith; writing = writing-starts _ _ }
 
-pub loop-i-preserved : goal.loop-i-preserved
-loop-i-preserved c =
-    let l = c.loop-i in record {
-      within = omega arith;
-      near = omega (arith, c.put_pair-next.ensures.place);
-      writing = writing-on l.invariant.writing c.put_pair-next.ensures (hex-next c.args.octets.now l.i c.loop-i-test.true);
+pub loop-x-preserved : goal.loop-x-preserved
+loop-x-preserved c =
+    let l = c.loop-x in record {
+      near = omega (arith, c.put_pair.ensures.wrote.place);
+      writing = writing-on l.invariant.writing c.put_pair.ensures (hex-next c.args.octets.now l.x-index (omega arith));
     }
-
-pub returns-clause-wrote : goal.returns-clause-wrote
-returns-clause-wrote c =
-    let l = c.loop-i in
-    writing-ends (rw (drop_of_length-le c.args.octets.now {i = l.i} (omega arith)) at l.invariant.writing)

@@ -1,7 +1,7 @@
-use Rattle.octets.proofs.Splice.{wrote_then}
+use Rattle.trace_lines.proofs.Writers.{writes_then}
 use Rattle.trace_records.proofs.put_line.Goals as goal
 
 pub returns-clause-wrote : goal.returns-clause-wrote
 returns-clause-wrote c =
-    let decided = wrote_then c.put_octet-d.ensures c.put_decision-e.ensures.wrote in
-    wrote_then (wrote_then (wrote_then (wrote_then c.put_fields-a.ensures.wrote c.put_field-b.ensures.wrote) c.put_timeouts-c.ensures.wrote) decided) c.put_octet.ensures
+    let decided = writes_then c.put_octet.ensures c.put_decision.ensures.wrote in
+    writes_then (writes_then (writes_then (writes_then c.put_fields.ensures.wrote c.put_field.ensures.wrote) c.put_timeouts.ensures.wrote) decided) c.put_octet-2.ensures

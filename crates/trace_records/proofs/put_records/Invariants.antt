@@ -9,10 +9,6 @@ use Rattle.trace_records.proofs.put_records.Given as goal
 -- What is left of the records gives what is left to write.
 abbrev pub invariant-loop-i : goal.invariant-loop-i
 invariant-loop-i l = record {
-  within : l.i ≤ l.n;
-  near : l.next ≤ l.at + line_most * l.i;
-  writing : Writing (record_lines (records_from l.n l.report)) l.initial.out l.at l.out l.next (record_lines (records_from (l.n - l.i) (drop (record_length * l.i) l.report)));
+  near : l.w.at ≤ l.initial.w.at + line_most * l.i;
+  writing : Writing (record_lines (records_from l.n l.report)) l.initial.w l.w (record_lines (records_from (l.n - l.i) (drop (record_length * l.i) l.report)));
 }
-
-abbrev pub decreases-loop-i : goal.decreases-loop-i
-decreases-loop-i l = l.n - l.i

@@ -1,5 +1,7 @@
-use Rattle.octets.proofs.Splice.{wrote_then}
+use Rattle.trace_lines.proofs.Writers.{writes_then}
 use Rattle.trace_totals.proofs.put_heading.Goals as goal
 
 pub returns-clause-wrote : goal.returns-clause-wrote
-returns-clause-wrote c = wrote_then (wrote_then (wrote_then c.put_word-word.ensures c.put_field-named.ensures.wrote) c.put_field-judged.ensures.wrote) c.put_octet.ensures
+returns-clause-wrote c =
+    let refusal = rw c.from.ensures at c.put_field-2.ensures.wrote in
+    writes_then (writes_then (writes_then c.put_word.ensures c.put_field.ensures.wrote) refusal) c.put_octet.ensures

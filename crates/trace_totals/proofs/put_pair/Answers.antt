@@ -1,5 +1,5 @@
-use Rattle.octets.proofs.Splice.{wrote_then}
+use Rattle.trace_lines.proofs.Writers.{writes_then}
 use Rattle.trace_totals.proofs.put_pair.Goals as goal
 
 pub returns-clause-wrote : goal.returns-clause-wrote
-returns-clause-wrote c = wrote_then c.put_field-next.ensures.wrote c.put_field.ensures.wrote
+returns-clause-wrote c = writes_then c.put_field.ensures.wrote c.put_field-2.ensures.wrote
