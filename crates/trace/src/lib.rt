@@ -39,7 +39,13 @@ pub struct Progress {
 }
 
 // The end, at a table with these places, and a summary.
-fn tell_end(which: Watcher, places: &[Place; 16], m: &[u64; rules::SUMMARY], stops: bool, w: &mut Writer<'_>)
+fn tell_end(
+    which: Watcher,
+    places: &[Place; 16],
+    m: &[u64; rules::SUMMARY],
+    stops: bool,
+    w: &mut Writer<'_>,
+)
     requires { w.old.at ≤ 0 }
     ensures wrote { Writes w.old (ended_by which places.now m.now «stops») w.new }
     ensures upper_bound { w.new.at ≤ 16384 }
@@ -79,7 +85,14 @@ fn tell_first(which: Watcher, m: &[u64; rules::SUMMARY], input: &[u8], w: &mut W
 }
 
 // An event that met a table with these places.
-fn tell_event(which: Watcher, events: u64, places: &[Place; 16], h: &Happening, report: &[u8], w: &mut Writer<'_>)
+fn tell_event(
+    which: Watcher,
+    events: u64,
+    places: &[Place; 16],
+    h: &Happening,
+    report: &[u8],
+    w: &mut Writer<'_>,
+)
     requires { (h.now.records ≤ records_most) × ((record_length * h.now.records ≤ length report.now) × Begins which w.old.at) }
     ensures wrote { Writes w.old (event_by which events places.now h.now report.now) w.new }
     ensures upper_bound { w.new.at ≤ 16384 }
@@ -97,7 +110,14 @@ fn tell_event(which: Watcher, events: u64, places: &[Place; 16], h: &Happening, 
 }
 
 // What the front of an input was met as, at a table with these places, behind what was printed before.
-fn tell(which: Watcher, events: u64, places: &[Place; 16], met: &Met, lent: &Areas<'_>, w: &mut Writer<'_>)
+fn tell(
+    which: Watcher,
+    events: u64,
+    places: &[Place; 16],
+    met: &Met,
+    lent: &Areas<'_>,
+    w: &mut Writer<'_>,
+)
     requires { Fits met.now lent.now.report.now × (Begins which w.old.at × (stops_at met.now ≡ true → w.old.at ≡ 0)) }
     ensures wrote { Writes w.old (told_by which events places.now lent.now.summary.now met.now lent.now.report.now) w.new }
     ensures upper_bound { w.new.at ≤ 16384 }
@@ -129,7 +149,14 @@ fn stops(met: &Met) -> bool
 }
 
 // The record at the front of an input, and what is printed of it.
-fn watch(which: Watcher, events: u64, held: &Replay, lent: &mut Areas<'_>, input: &[u8], w: &mut Writer<'_>) -> Progress
+fn watch(
+    which: Watcher,
+    events: u64,
+    held: &Replay,
+    lent: &mut Areas<'_>,
+    input: &[u8],
+    w: &mut Writer<'_>,
+) -> Progress
     requires { w.old.at ≡ 0 }
     ensures of_turn { OfTurn (turned (observer_of which) events held.now (stored_by lent.old) (lent_by lent.old) input.now) w.old.area.now result (stored_by lent.new) (lent_by lent.new) w.new.area.now }
     ensures used_in_bounds { (result.used ≤ length input.now) × (result.written ≤ 16384) }
@@ -149,7 +176,14 @@ fn watch(which: Watcher, events: u64, held: &Replay, lent: &mut Areas<'_>, input
 }
 
 // The same, to the front of out.
-fn step(which: Watcher, events: u64, held: &Replay, lent: &mut Areas<'_>, input: &[u8], out: &mut [u8]) -> Progress
+fn step(
+    which: Watcher,
+    events: u64,
+    held: &Replay,
+    lent: &mut Areas<'_>,
+    input: &[u8],
+    out: &mut [u8],
+) -> Progress
     ensures of_turn { OfTurn (turned (observer_of which) events held.now (stored_by lent.old) (lent_by lent.old) input.now) out.old result (stored_by lent.new) (lent_by lent.new) out.new }
     ensures used_in_bounds { (result.used ≤ length input.now) × (result.written ≤ 16384) }
     ensures same { Same lent.old lent.new }

@@ -238,7 +238,13 @@ fn put_line(w: &mut Writer<'_>, number: u64, h: &Happening, report: &[u8])
 }
 
 // All that is printed of an event: its line, its records, and what an opening drops of the places before it.
-pub fn put_event(w: &mut Writer<'_>, number: u64, h: &Happening, report: &[u8], places: &[Place; 16])
+pub fn put_event(
+    w: &mut Writer<'_>,
+    number: u64,
+    h: &Happening,
+    report: &[u8],
+    places: &[Place; 16],
+)
     requires { (w.old.at ≤ 0) × ((h.now.records ≤ records_most) × (record_length * h.now.records ≤ length report.now)) }
     ensures wrote { Writes w.old (listing_for number h.now report.now places.now) w.new }
     ensures upper_bound { w.new.at ≤ 9000 }

@@ -11,11 +11,11 @@ pub loop-row-preserved : goal.loop-row-preserved
 loop-row-preserved c =
     let l = c.loop-row in
     elim c.if-m-row-eq1.branch [
-      then-m-row-eq1 w ↦ rw w.w-is (record {
+      | then-m-row-eq1 w ↦ rw w.w-is (record {
         near = omega (arith, w.put_row.ensures.upper_bound, l.invariant.near);
         wrote = rows_next c.args.m.now l.row l.invariant.wrote (rw (used_is c.args.m.now l.row, w.if-m-row-eq1.true) w.put_row.ensures.wrote);
       })
-    | else-m-row-eq1 w ↦ rw w.w-is (record {
+      | else-m-row-eq1 w ↦ rw w.w-is (record {
         near = omega (arith, l.invariant.near);
         wrote = rows_next c.args.m.now l.row l.invariant.wrote (rw (used_is c.args.m.now l.row, ne_eqb _ 1 w.if-m-row-eq1.false) (writes_none _));
       })
