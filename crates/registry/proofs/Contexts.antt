@@ -1,12 +1,16 @@
 -- Where every entry is usable, those with context 0 are the unused ones: contexts alone tell whether one is listed twice.
 use Prim.Native.Nat.{ℕ}
-use mathlib.Core.Path.{◌≡◌, refl, sym, ap}
-use mathlib.Core.Bool.{Bool, true, false, not, ◌&&◌, ◌||◌, and-false, or-false, and-eq-true_iff}
+use Rattle.std.specs.Prelude.{Option, Some, None}
+use Rattle.std.specs.Borrow.{Bor}
+use Rattle.std.specs.List.{find, fold}
+use Rattle.std.specs.Option.{MatchOption, option_map}
+use mathlib.Core.Path.{◌≡◌, refl, sym, ap, ◌∙◌}
+use mathlib.Core.Bool.{Bool, true, false, not, ◌&&◌, ◌||◌, and-false, or-false, and-eq-true_iff, and_assoc, and_comm}
 use mathlib.Core.List.{List, [], ◌∷◌}
 use borrow.Author.Tests.{eqb-true, eqb-false, eq-eqb, ne_eqb}
 use lib.Dec.{eqb}
 use Rattle.rules.specs.General.{every, every_two}
-use Rattle.rules.specs.Registry.{is_unused, is_usable, entries_apart, registry_sound}
+use Rattle.rules.specs.Registry.{kind_of, is_unused, is_usable, entries_apart, registry_sound}
 use Rattle.rules.specs.declared.Entry.{Entry}
 use Rattle.registry.specs.Contexts.{has_other, contexts_apart}
 
@@ -63,3 +67,24 @@ sound-is es = go (every is_usable es) refl
     go : (b : Bool) → every is_usable es ≡ b → (b && every_two contexts_apart es) ≡ (b && every_two entries_apart es)
     go true e = apart-all es e
     go false e = refl
+
+-- the first entry of a context, where there is one, has its kind
+pub kind-found : {Q : Bor Entry → Type 0} (es : List Entry) (x k : ℕ) (r : Option (Bor Entry)) → option_map (λ (b : Bor Entry). b.now) r ≡ find (λ (e : Entry). eqb e.context.0 x) es
+    → MatchOption r (k ≡ 0) Q → ((b : Bor Entry) → Q b → k ≡ b.now.kind) → k ≡ kind_of es x
+kind-found [] x k None same m h = m
+kind-found [] x k (Some b) same m h = cc
+kind-found {Q} (e ∷ es) x k r same m h = go (eqb e.context.0 x) refl r same m (λ t s n. kind-found es x k t s n h)
+  where
+    Found : List Entry → Option (Bor Entry) → Type 0
+    Found ds t = option_map (λ (b : Bor Entry). b.now) t ≡ find (λ (d : Entry). eqb d.context.0 x) ds
+
+    go : (b : Bool) → eqb e.context.0 x ≡ b → (t : Option (Bor Entry)) → Found (e ∷ es) t → MatchOption t (k ≡ 0) Q
+        → ((t : Option (Bor Entry)) → Found es t → MatchOption t (k ≡ 0) Q → k ≡ kind_of es x) → k ≡ kind_of (e ∷ es) x
+    go true a None s n later = let z = simp a at s in cc
+    go true a (Some b) s n later = let z = simp a at s in simp a (h b n ∙ ap (λ (d : Entry). d.kind) (let w : b.now ≡ e = cc in w))
+    go false a t s n later = simp a (later t (simp a at s) n)
+
+-- every element passes, in one run over all of them
+pub fold-every : {A : Type 0} (test : A → Bool) (b : Bool) (xs : List A) → fold (λ (ok : Bool) (x : A). ok && test x) b xs ≡ (b && every test xs)
+fold-every test b [] = sym (and_comm b true)
+fold-every test b (x ∷ xs) = fold-every test (b && test x) xs ∙ and_assoc b (test x) (every test xs)

@@ -1,16 +1,13 @@
+use Rattle.std.proofs.Common.{rules, tests, ◌&&◌, Bool, true, ◌∙◌}
+use Rattle.std.proofs.lemmas.Iterator.{YieldsList-from_slice}
+use Rattle.std.proofs.lemmas.Iterator.Consumers.{fold_from_yields_List}
 use Rattle.rules.specs.Registry.{is_usable}
-use Rattle.rules.specs.Opening.{no_entry}
-use native.Mathlib.Omega.{arith}
-use Rattle.rules.proofs.Along.{every-so-far, every-over}
+use Rattle.rules.specs.declared.Entry.{Entry}
+use Rattle.registry.proofs.Contexts.{fold-every}
 use Rattle.registry.proofs.all_usable.Goals as goal
-
-pub loop-i-preserved : goal.loop-i-preserved
-loop-i-preserved c =
-    let l = c in
-    every-so-far is_usable l.args.registry no_entry l.loop-i.i _ l.loop-i.usable l.loop-i.invariant _ (omega arith)
-    (rw (c.is_entry.ensures, c.is_unused.ensures))
 
 pub returns : goal.returns
 returns c =
-    let l = c in
-    every-over is_usable l.args.registry no_entry l.loop-i.i _ l.loop-i.usable l.loop-i.invariant (omega arith)
+    let a = c.args in
+    fold_from_yields_List _ (λ (b : Bool) (e : Entry). b && is_usable e) true c.fold.result c.fold.ensures.ran (YieldsList-from_slice a.registry cc) (λ r x b q k. search (rules, tests))
+    ∙ fold-every is_usable true a.registry

@@ -1,4 +1,0 @@
-use Rattle.registry.proofs.is_entry.Goals as goal
-
-pub returns : goal.returns
-returns c = rw c.is_known.ensures
