@@ -1,4 +1,0 @@
-use Rattle.opening.proofs.refused.Goals as goal
-
-pub returns : goal.returns
-returns c = rw c.unopened_table.ensures
