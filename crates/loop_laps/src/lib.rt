@@ -19,28 +19,22 @@ pub struct Looped {
     pub number: u8,
 }
 
-// What stays the same from segment to segment.
+// What stays the same from segment to segment: what is asked for, and what is sent.
 #[derive(Clone, Copy)]
-pub struct Course {
+pub struct Course<'a> {
     pub table: Table,
     pub request: Request,
     pub association: u16,
+    pub origin: &'a [u8],
+    pub destination: &'a [u8],
+    pub whole: &'a [u8],
 }
 
 // The request for segment k.
 pub fn for_segment(q: Request, k: usize) -> Request
     ensures { result ≡ numbered q k }
 {
-    let context = q.context;
-    let reference = q.reference;
-    Request {
-        context,
-        instruction: q.instruction,
-        reference,
-        room1: q.room1,
-        room: q.room,
-        number: k,
-    }
+    Request { number: k, ..q }
 }
 
 // The first n octets of the area are received, at the table's own time.
@@ -62,13 +56,11 @@ pub fn receive(
         report,
         t.clock,
         association,
-        octets::part(area, 0, n as usize),
+        octets::part(area, 0, usize::from(n)),
     );
-    let table = r.table;
-    let decision = r.decision;
     Looped {
-        table,
-        decision,
+        table: r.table,
+        decision: r.decision,
         length: n,
         number: 0,
     }
@@ -76,48 +68,37 @@ pub fn receive(
 
 // Segment k is cut, and received.
 fn one(
-    c: Course,
-    k: usize,
+    c: &Course,
+    k: u8,
     t: Table,
-    origin: &[u8],
-    destination: &[u8],
-    whole: &[u8],
     area: &mut [u8],
     m: &mut [u64; rules::SUMMARY],
     store: &mut [u8],
     report: &mut [u8],
 ) -> Looped
-    ensures { OfLap (lap (asked c.table c.request c.association origin.now destination.now whole.now) k (standing (state_of t m.old store.old) (lending report.old area.old))) result m.new store.new (lending report.new area.new) }
+    ensures { OfLap (lap (asked c.now.table c.now.request c.now.association c.now.origin.now c.now.destination.now c.now.whole.now) k (standing (state_of t m.old store.old) (lending report.old area.old))) result m.new store.new (lending report.new area.new) }
 {
-    let sender = c.table;
-    let q = c.request;
-    let s = sender::sending(sender, for_segment(q, k), origin, destination, whole, area);
+    let q = for_segment(c.request, usize::from(k));
+    let s = sender::sending(c.table, q, c.origin, c.destination, c.whole, area);
     receive(t, c.association, s.length, area, m, store, report)
 }
 
 // The segments after the first.
 pub fn others(
-    c: Course,
+    c: &Course,
     count: u8,
     first: Looped,
-    origin: &[u8],
-    destination: &[u8],
-    whole: &[u8],
     area: &mut [u8],
     m: &mut [u64; rules::SUMMARY],
     store: &mut [u8],
     report: &mut [u8],
 ) -> Looped
     requires { (1 ≤ count) × (first.number ≡ 0) }
-    ensures { OfLap (laps (count - 1) 1 (asked c.table c.request c.association origin.now destination.now whole.now) (lap_of first m.old store.old (lending report.old area.old))) result m.new store.new (lending report.new area.new) }
+    ensures { OfLap (laps (count - 1) 1 (asked c.now.table c.now.request c.now.association c.now.origin.now c.now.destination.now c.now.whole.now) (lap_of first m.old store.old (lending report.old area.old))) result m.new store.new (lending report.new area.new) }
 {
-    let end = count as usize;
     let mut l = first;
-    let mut k = 1;
-    while k < end {
-        let t = l.table;
-        l = one(c, k, t, origin, destination, whole, area, m, store, report);
-        k += 1;
+    for k in 1..count {
+        l = one(c, k, l.table, area, m, store, report);
     }
     l
 }

@@ -6,5 +6,5 @@ use Rattle.loop_laps.proofs.one.Goals as goal
 pub returns : goal.returns
 returns c =
     let a = c.args in
-    one-lap (asked a.c.table a.c.request a.c.association a.origin.now a.destination.now a.whole.now) a.k (state_of a.t a.m.now a.store.now) (lending a.report.now a.area.now) _ _ _ _ _ _ _
-    c.for_segment.ensures c.sending-s.ensures c.receive.ensures
+    one-lap (asked a.c.now.table a.c.now.request a.c.now.association a.c.now.origin.now a.c.now.destination.now a.c.now.whole.now) a.k (state_of a.t a.m.now a.store.now) (lending a.report.now a.area.now) _ _ _ _ _ _ _
+    (rw c.from.ensures at c.for_segment-q.ensures) c.sending-s.ensures c.receive.ensures

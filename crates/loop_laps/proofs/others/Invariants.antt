@@ -1,4 +1,4 @@
-use Prim.Native.Nat.{◌-◌, ◌≤◌}
+use Prim.Native.Nat.{◌-◌}
 use mathlib.Core.Path.{◌≡◌}
 use lib.ListN.{length}
 use Rattle.rules.specs.Calls.{lending}
@@ -7,13 +7,9 @@ use Rattle.loop_laps.proofs.others.Given as goal
 
 abbrev pub invariant-loop-k : goal.invariant-loop-k
 invariant-loop-k l = record {
-  so_far : laps (l.count - 1) 1 (asked l.c.table l.c.request l.c.association l.origin l.destination l.whole) (lap_of l.initial.l l.initial.m l.initial.store (lending l.initial.report l.initial.area)) ≡ laps (l.end - l.k) l.k (asked l.c.table l.c.request l.c.association l.origin l.destination l.whole) (lap_of l.l l.m l.store (lending l.report l.area));
+  so_far : laps (l.count - 1) 1 (asked l.c.table l.c.request l.c.association l.c.origin.now l.c.destination.now l.c.whole.now) (lap_of l.initial.l l.initial.m l.initial.store (lending l.initial.report l.initial.area)) ≡ laps (l.count - l.k) l.k (asked l.c.table l.c.request l.c.association l.c.origin.now l.c.destination.now l.c.whole.now) (lap_of l.l l.m l.store (lending l.report l.area));
   number : l.l.number ≡ 0;
-  within : l.k ≤ l.end;
   area : length l.area ≡ length l.initial.area;
   store : length l.store ≡ length l.initial.store;
   report : length l.report ≡ length l.initial.report;
 }
-
-abbrev pub decreases-loop-k : goal.decreases-loop-k
-decreases-loop-k l = l.end - l.k
