@@ -2,13 +2,14 @@
 use Rattle.std.specs.Prelude.{Option, Some, None}
 use Prim.Native.Nat.{ℕ, zero, suc, ◌+◌, ◌*◌, ◌-◌, ◌≤◌, ◌<◌, ◌^◌}
 use mathlib.Core.Path.{◌≡◌, refl, sym, ap, subst, ◌∙◌}
-use mathlib.Core.Bool.{Bool, true, false, or-true, and-eq-true_iff, true≢false}
+use Rattle.std.specs.List.{list_all}
+use mathlib.Core.Bool.{Bool, true, false, ◌&&◌, or-true, and-eq-true_iff, true≢false}
 use mathlib.Core.List.{List, [], ◌∷◌, ◌++◌}
 use native.Mathlib.Omega.{arith}
-use native.Mathlib.Numerals.{add-one}
-use borrow.Author.Tests.{eqb-true, eqb-false, leb-true, le-leb, lt-leb}
+use borrow.Author.Tests.{eqb-true, eqb-false, leb-true, leb-false, le-leb, lt-leb}
 use lib.Dec.{eqb, leb}
-use lib.ListN.{length, get_or, length-drop}
+use lib.ListN.{length, drop, get_or, length-drop}
+use Rattle.std.proofs.lemmas.List.{get_or-drop}
 use Rattle.rules.specs.General.{every}
 use Rattle.rules.specs.Numbers.{store_least}
 use Rattle.rules.specs.Refusals.{accepted}
@@ -28,7 +29,7 @@ use Rattle.rules.specs.declared.Fields.{Fields}
 use Rattle.rules.specs.declared.Record.{Record}
 use Rattle.rules.specs.declared.Line.{Line}
 use Rattle.rules.specs.declared.Line.TheVariants.{Unsegmented, Broken, Restart, Start, Final, Next}
-use Rattle.rules.proofs.Below.{below_at, below-from, below_fails}
+use Rattle.rules.proofs.Below.{below_at, below-from, below-same}
 use Rattle.rules.proofs.Rows.{total-count, row-of-within, row-for-within}
 use Rattle.rules.proofs.Fitting.{tally-first, tally-second, tally-other, seat-totals, length-seat, length-took, column-within}
 use Rattle.rules.proofs.Seats.{took-sound, billed-keeps}
@@ -227,16 +228,34 @@ module _ (association : ℕ) (m : List ℕ) (k : ℕ) (st : State) (h : Countabl
       rw (le-leb (get_or sums (128 + i) 0) total_most (omega (arith, h.totals i))) (or-true (eqb (get_or sums (128 + i) 0) (get_or st.summary (128 + i) 0)))) in
       subst (λ (w : Counted Sweeping). accepted (row_checks w.summary association ++ both_checks w st.store association s) ≡ true) (sym still) (rw (h.row, room))
 
--- ROOM, as the code asks for it: one total after the other, and without a sum, which might not fit 64 bits
+-- ROOM, as the code asks for it: of all the numbers of the columns of totals, and without a sum, which might not fit 64 bits
 
-module _ (m : List ℕ) (k : ℕ) where
-  pub roomy-not : k < 384 → total_most - 65536 < get_or m (128 + k) 0 → is_roomy m ≡ false
-  unfolding is_roomy
-  roomy-not l h = below_fails (leaves m) total_count k (omega (arith, total-count)) (lt-leb (get_or m (128 + k) 0 + 65536) total_most (omega arith))
+-- a test of each number below a limit, from the first on
+below-front : (f : ℕ → Bool) (n : ℕ) → every_below (suc n) f ≡ (f 0 && every_below n (λ k. f (suc k)))
+below-front f zero = refl
+below-front f (suc n) = rw (below-front f n) (go (f (suc n)) (f 0) (every_below n (λ k. f (suc k))))
+  where
+    go : (a b c : Bool) → (a && (b && c)) ≡ (b && (a && c))
+    go true b c = refl
+    go false true c = refl
+    go false false c = refl
 
-  pub roomy-more : every_below k (leaves m) ≡ true → get_or m (128 + k) 0 ≤ total_most - 65536 → every_below (k + 1) (leaves m) ≡ true
-  roomy-more e h = rw (add-one k, le-leb (get_or m (128 + k) 0 + 65536) total_most (omega arith), e)
+below-all : (test : ℕ → Bool) (xs : List ℕ) → list_all test xs ≡ every_below (length xs) (λ k. test (get_or xs k 0))
+below-all test [] = refl
+below-all test (x ∷ xs) = rw (below-all test xs) (sym (below-front (λ k. test (get_or (x ∷ xs) k 0)) (length xs)))
 
-  pub roomy-all : every_below k (leaves m) ≡ true → k ≡ 384 → is_roomy m ≡ true
-  unfolding is_roomy
-  roomy-all e l = let end : k ≡ total_count = omega (arith, total-count) in rw end at e
+without-sum : (n : ℕ) → leb n (total_most - 65536) ≡ leb (n + 65536) total_most
+without-sum n = go (leb n (total_most - 65536)) refl
+  where
+    go : (b : Bool) → leb n (total_most - 65536) ≡ b → b ≡ leb (n + 65536) total_most
+    go true e = sym (le-leb (n + 65536) total_most (omega (arith, leb-true n (total_most - 65536) e)))
+    go false e = sym (lt-leb (n + 65536) total_most (omega (arith, leb-false n (total_most - 65536) e)))
+
+pub all-roomy : (m : List ℕ) → length m ≡ 512 → list_all (λ n. leb n (total_most - 65536)) (drop 128 m) ≡ is_roomy m
+unfolding is_roomy
+all-roomy m long =
+    let count : length (drop 128 m) ≡ total_count = omega (arith, total-count, length-drop 128 m) in
+    below-all (λ n. leb n (total_most - 65536)) (drop 128 m)
+    ∙ rw count
+    (below-same (λ k. leb (get_or (drop 128 m) k 0) (total_most - 65536)) (leaves m) total_count
+    (λ k h. rw (get_or-drop 128 m k 0) (without-sum (get_or m (128 + k) 0))))

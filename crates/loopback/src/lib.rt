@@ -3,6 +3,7 @@
 
 ghost use Rattle.std.specs.Prelude.{◌≡◌};
 ghost use Rattle.rules.specs.Places.{is_at, lowest_free};
+ghost use Rattle.refusals.specs.Numbers.{number_if};
 ghost use Rattle.rules.specs.Refusals.{first};
 ghost use Rattle.rules.specs.Summary.{row_for};
 ghost use Rattle.rules.specs.Calls.{lending};
@@ -10,6 +11,7 @@ ghost use Rattle.loop_laps.specs.Laps.{asked};
 ghost use Rattle.loopback.specs.Loopback.{is_roomy, count_checks, fit_checks, OfLoopback};
 
 use loop_laps::{Course, Looped};
+use refusals::Refusal;
 use rules::{Decision, Request, Table};
 
 // Nothing is done, and why.
@@ -25,84 +27,70 @@ fn refused(t: Table, number: u8) -> Looped
 }
 
 // Whether a place is free.
-fn has_vacant(t: Table) -> bool
-    ensures { result ≡ is_at (lowest_free t.places) }
+fn has_vacant(t: &Table) -> bool
+    ensures { result ≡ is_at (lowest_free t.now.places) }
 {
-    let places = t.places;
-    match table::lowest_free(places) {
-        Some(_) => true,
-        None => false,
-    }
+    table::lowest_free(t.places).is_some()
 }
 
 // Whether the association has a row, or can get one.
 fn has_row(m: &[u64; rules::SUMMARY], association: u16) -> bool
     ensures { result ≡ is_at (row_for m.now association) }
 {
-    match summary::row_for(m, association) {
-        Some(_) => true,
-        None => false,
-    }
+    summary::row_for(m, association).is_some()
 }
 
 // Whether every total leaves room for all that a loopback may add.
 fn is_roomy(m: &[u64; rules::SUMMARY]) -> bool
     ensures { result ≡ is_roomy m.now }
 {
-    let mut k = 0;
-    while k < 384 {
-        if rules::TOTAL - 65536 < m[128 + k] {
-            return false;
-        }
-        k += 1;
-    }
-    true
+    m[128..].iter().all(|n| *n <= rules::TOTAL - 65536)
 }
 
-// Whether the summary can count it: 0, 21 or 22.
-fn uncounted(m: &[u64; rules::SUMMARY], association: u16) -> u8
-    ensures { result ≡ first (count_checks m.now association) }
+// Whether the summary can count it; else 21 or 22.
+fn judge_count(m: &[u64; rules::SUMMARY], association: u16) -> Result<(), Refusal>
+    ensures { number_if result ≡ first (count_checks m.now association) }
 {
     if !has_row(m, association) {
-        return 21;
+        return Err(Refusal::NoRowUnused);
     }
     if !is_roomy(m) {
-        return 22;
+        return Err(Refusal::TotalLarge);
     }
-    0
+    Ok(())
 }
 
-// Whether the table, the summary and the areas will do: 0, or the number of the first condition that fails.
-fn unfit(
-    t: Table,
+// Whether the table, the summary and the areas will do; else the first condition that fails.
+fn judge(
+    t: &Table,
     m: &[u64; rules::SUMMARY],
     association: u16,
     store: usize,
     report: usize,
     area: usize,
-) -> u8
-    ensures { result ≡ first (fit_checks t m.now association store report area) }
+) -> Result<(), Refusal>
+    ensures { number_if result ≡ first (fit_checks t.now m.now association store report area) }
 {
-    let both = sound::are_sound(t, m);
+    let both = sound::are_sound(*t, m);
     if !both.summary {
-        return 1;
+        return Err(Refusal::Unsound);
     }
     if !both.table {
-        return 1;
+        return Err(Refusal::Unsound);
     }
     if store < rules::STORE {
-        return 2;
+        return Err(Refusal::StoreShort);
     }
     if report < rules::REPORT_ARRIVAL {
-        return 3;
+        return Err(Refusal::ReportShort);
     }
-    if area < 255 {
-        return 20;
+    if area < rules::PARAMETER {
+        return Err(Refusal::AreaShort);
     }
     if !has_vacant(t) {
-        return 10;
+        return Err(Refusal::NoPlaceFree);
     }
-    uncounted(m, association)
+    judge_count(m, association)
 }
 
 // Cuts the data, receives each segment at the same table, and answers with the last one's decision; or refuses, and nothing is changed.
@@ -121,9 +109,8 @@ pub fn loopback(
     ensures { OfLoopback (asked t q association origin.now destination.now whole.now) m.old store.old (lending report.old area.old) result m.new store.new (lending report.new area.new) }
 {
     summary::numbers(m);
-    let number = unfit(t, m, association, store.len(), report.len(), area.len());
-    if number != 0 {
-        return refused(t, number);
+    if let Err(r) = judge(&t, m, association, store.len(), report.len(), area.len()) {
+        return refused(t, u8::from(r));
     }
     let s = sender::sending(
         t,
@@ -141,17 +128,9 @@ pub fn loopback(
         table: t,
         request: q,
         association,
-    };
-    loop_laps::others(
-        c,
-        s.count,
-        first,
         origin,
         destination,
         whole,
-        area,
-        m,
-        store,
-        report,
-    )
+    };
+    loop_laps::others(&c, s.count, first, area, m, store, report)
 }

@@ -1,19 +1,15 @@
-use mathlib.Core.Path.{sym}
-use native.Mathlib.Omega.{arith}
-use Rattle.loopback.proofs.Room.{roomy-not, roomy-more, roomy-all}
+use Rattle.std.proofs.Common.{rules, arith, ◌-◌, ◌∙◌, drop, length-drop}
+use Rattle.std.proofs.Math.Seq.{take_all}
+use Rattle.std.specs.Prelude.{leb}
+use Rattle.std.proofs.lemmas.Iterator.{YieldsList-from_slice}
+use Rattle.std.proofs.lemmas.Iterator.Search.{all_from_yields_List}
+use Rattle.rules.specs.Summary.{total_most}
+use Rattle.loopback.proofs.Room.{all-roomy}
 use Rattle.loopback.proofs.is_roomy.Goals as goal
-
-pub returns-then-m-k : goal.returns-then-m-k
-returns-then-m-k c =
-    sym (roomy-not c.args.m.now c.loop-k.k (omega arith) c.if-m-k.true)
-
-pub loop-k-preserved : goal.loop-k-preserved
-loop-k-preserved c =
-    record {
-      within = omega arith;
-      all = roomy-more c.args.m.now c.loop-k.k c.loop-k.invariant.all c.if-m-k.false;
-    }
 
 pub returns : goal.returns
 returns c =
-    sym (roomy-all c.args.m.now c.loop-k.k c.loop-k.invariant.all (omega arith))
+    let m = c.args.m.now in
+    let totals = take_all 384 (drop 128 m) (omega (arith, length-drop 128 m)) in
+    all_from_yields_List (λ n. leb n (total_most - 65536)) _ _ _ c.all.ensures.ran (YieldsList-from_slice (drop 128 m) (rw c.iter.ensures.rest totals)) (λ x b q k. search rules)
+    ∙ all-roomy m c.told-m
