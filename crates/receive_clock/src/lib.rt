@@ -58,8 +58,6 @@ pub fn billed(t: Table, which: Test, m: &mut [u64; rules::SUMMARY]) -> bool
     ensures value { result ≡ fits m.old (billed m.old (losses which t.places)) }
     ensures m_after { result ≡ true → m.new ≡ billed m.old (losses which t.places) }
 {
-    // For the proof, which needs how many numbers m has.
-    summary::numbers(m);
     for p in &t.places {
         if !bill_due(m, which, p) {
             return false;

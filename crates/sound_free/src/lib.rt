@@ -52,7 +52,8 @@ fn idle_weight(p: &Place) -> u64
     if p.mark == 1 { 0 } else { w }
 }
 
-// What places weigh that are not open.
+// What places weigh that are not open. In its caller it has eight: then the loop is unrolled, and reads the places where they are.
+#[inline(always)]
 fn idle_weights(places: &[Place]) -> u64
     ensures { eqb result 0 ≡ every sound_if_idle places.now }
 {
@@ -63,7 +64,7 @@ fn idle_weights(places: &[Place]) -> u64
     sum
 }
 
-// Whether each place that is not open is all zero. A loop over eight is unrolled, and reads the places where they are; one over sixteen is not.
+// Whether each place that is not open is all zero. By eight: a loop over sixteen is not unrolled.
 #[tactic(auto, using(crate::proofs::Weights::in_halves))]
 pub fn idle_sound(places: [Place; 16]) -> bool
     ensures { result ≡ every sound_if_idle places }

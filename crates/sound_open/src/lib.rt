@@ -96,6 +96,7 @@ fn head(a: &[u8; 20]) -> u64
 }
 
 // What tells most open places apart, as one number. Any number of the key would do; this is the key but for its addresses' octets, with the first eight of each mixed in.
+// As it was: (iii) `as`, since u64::from of a field behind a reference tells no proof that the field is in its range, and the sums then have no bounds.
 fn digest_of(p: &Place) -> u64
     ensures { result ≡ digest p.now }
 {
