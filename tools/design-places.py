@@ -239,8 +239,8 @@ def point3():
             steps = re.findall(r"\b(\w+) ([-+*/]=) (\w+)", f.body)
             by_one = [n for n, _, k in steps if k == "1" and re.search(r"\b" + n + r"\b", condition)]
             moved = [n for n, _, k in steps if re.search(r"\b" + n + r"\b", condition)]
-            how = "counts " + by_one[0] if by_one else "moves " + moved[0] if moved else "other"
-            place(3, f, "while " + condition + ": " + how)
+            if moved:
+                place(3, f, "while " + condition + ": " + ("counts " + by_one[0] if by_one else "moves " + moved[0]))
 
 
 # BY HAND

@@ -19,7 +19,7 @@ const TRIES: u64 = 1000;
 pub struct Told;
 
 // One read.
-// As it was: one function for this and write_once would take a closure, and its contract would have to follow the closure's states through a chain of interrupted calls, which is longer than the loop.
+// As it was: beside write_once, since one function over a closure would have to follow the closure's states through a chain of interrupted calls in its contract, which is longer than this loop.
 fn read_once<R: Read>(source: &mut R, area: &mut [u8]) -> io::Result<usize>
     ensures bound { ReadsAtMost result area.new }
     ensures bytes { ReadConsumes (R.remaining source.old) (R.remaining source.new) result area.new }
@@ -96,6 +96,7 @@ pub fn fill<R: Read>(
     ensures ended { IfOk result (λ n. n < length area.new → IsAtEnd (R.remaining source.new)) }
     ensures failed { OnErr result ((n : ℕ) × (n < length area.new) × Consumes (R.remaining source.old) (R.remaining source.new) (take n area.new)) }
 {
+    // As it was: an index beside the area; by a slice that shrinks from turn to turn it was tried, and nothing ties what the area holds in the end to the parts that were read.
     let mut done = 0;
     while done < area.len() {
         let n = read(rt, source, what, &mut area[done..])?;

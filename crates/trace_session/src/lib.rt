@@ -2,6 +2,7 @@
 #![tactic(auto)]
 
 ghost use Rattle.std.specs.Prelude.{◌<◌, ◌≤◌, ◌↔◌, IsNone};
+ghost use Rattle.trace_session.specs.declared.TheConstants.{ROOM};
 
 use streams::Told;
 use trace::Watcher;
@@ -16,7 +17,7 @@ pub struct Session {
     pub replay: Replay,
     pub events: u64,
     pub have: usize,
-    ghost room: { have ≤ 65536 },
+    ghost room: { have ≤ ROOM },
 }
 
 // What is lent to the calls, what is read and what is printed.
