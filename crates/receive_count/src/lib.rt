@@ -34,6 +34,7 @@ fn has_room(m: &[u64; rules::SUMMARY], row: usize, n: usize, told: Option<Told>)
 }
 
 // Counts it there.
+// As it was: (i) as has_room.
 fn add(m: &mut [u64; rules::SUMMARY], row: usize, n: usize, told: Option<Told>)
     requires { (row < 64) × (room_for m.old row n told ≡ true) }
     ensures { m.new ≡ added_in m.old row n told }

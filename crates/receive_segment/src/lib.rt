@@ -42,7 +42,7 @@ fn refused(fault: Fault, held: Place) -> Verdict
 
 // The verdict on a segment that has been read. The checks of where its line takes it are the last ones.
 fn arrive(t: &Table, s: &[u8], f: Fields, q: Sought, held: Place) -> Verdict
-    requires t_value { (sound t.now ≡ true) × ((length s.now ≤ parameter_most) × Seeks t.now q.key f.heading q) }
+    requires t_value { (sound t.now ≡ true) × ((reading t.now.registry s.now ≡ Ok f) × Seeks t.now q.key f.heading q) }
     requires at_lt_place_count { (q.search.at < place_count) × (held ≡ get_or t.now.places q.search.at no_place) }
     ensures by_index { (store report : List ℕ) → Leads (arrival t.now store report q.key f (information_of s.now f)) t.now q.search.at q.key result (drop result.information s.now) store report }
     ensures by_index_2 { (store : ℕ) → store_least ≤ store → Fits result store (length (drop result.information s.now)) }
@@ -180,6 +180,7 @@ fn received(t: Table, v: Verdict) -> Received
 // A segment at a table, of which it is known whether it is sound, and whether the summary is beside it. All is judged, reading only; then the last verdict is performed, and one place of
 // the copy of the table is written. A refusal writes nothing, and its place stays: so there is one end for both, and the copy goes to the answer at once. A later check goes before the
 // first writing.
+// As it was: (i) the clause OfSegment names each of these.
 pub fn segment(
     t: Table,
     is_sound: bool,

@@ -1,8 +1,27 @@
-use Rattle.std.proofs.Common.{refl, sym, ap, ◌∙◌, ℕ, drop}
+use Rattle.std.proofs.Common.{◌≡◌, ◌≤◌, refl, sym, ap, ◌∙◌, ℕ, List, length, drop, length-drop, Ok, arith}
+use Rattle.rules.specs.Numbers.{parameter_most}
 use Rattle.rules.specs.Refusals.{unplaced}
+use Rattle.rules.specs.declared.Fields.{Fields}
+use Rattle.rules.specs.declared.Table.{Table}
+use Rattle.param_read.specs.Reading.{reading}
+use Rattle.receive_seek.proofs.Reading.{read_short}
 use Rattle.receive_segment.specs.Arrival.{arrival}
 use Rattle.receive_segment.proofs.Arriving.{leads-as, leads-of, refuses, is-full, is_carried, fit}
 use Rattle.receive_segment.proofs.arrive.Goals as goal
+
+-- the information of a parameter that was read is short
+info-short : (t : Table) (f : Fields) (i : ℕ) (s l : List ℕ) → reading t.registry s ≡ Ok f → l ≡ drop i s → length l ≤ parameter_most
+info-short t f i s l r e =
+    let long = (read_short t s f r).parameter in
+    rw (e, length-drop i s) (omega arith)
+
+pub line_of-line-requires : goal.line_of-line-requires
+line_of-line-requires c = info-short c.args.t.now c.args.f _ c.args.s.now _ c.requires.t_value.1.0 c.tail-n.ensures
+
+pub overflow_cast-j : goal.overflow_cast-j
+overflow_cast-j c =
+    let short = info-short c.args.t.now c.args.f _ c.args.s.now _ c.requires.t_value.1.0 c.tail-n.ensures in
+    omega arith
 
 pub returns-then-full-clause-by_index : goal.returns-then-full-clause-by_index
 returns-then-full-clause-by_index c store report =

@@ -6,16 +6,15 @@ use Rattle.rules.specs.Receiving.{information_of, lent_checks}
 use Rattle.rules.specs.declared.Key.{Key}
 use Rattle.param_read.specs.Reading.{reading}
 use Rattle.receive_segment.specs.Arrival.{arrival}
-use Rattle.receive_seek.proofs.Reading.{read_short, read-fields, read_number}
+use Rattle.receive_seek.proofs.Reading.{read-fields, read_number}
 use Rattle.receive_segment.proofs.Arriving.{leads-as, refused-verdict, segment-read, after_reading}
 use Rattle.receive_segment.proofs.judge.Goals as goal
 
 pub arrive-requires-clause-t_value : goal.arrive-requires-clause-t_value
 arrive-requires-clause-t_value c =
     let r = c.in-Ok.ensures.read _ refl in
-    let w = read_short c.args.t.now c.args.s.now _ (sym c.requires.reading_value.0 ∙ r.1.1) in
     let q = c.requires.reading_value.1 _ r.1.1 in
-    (sym c.requires.is_sound_value ∙ r.0, (w.parameter, record { key-is = refl; points = rw (← q.key-is) at q.points }))
+    (sym c.requires.is_sound_value ∙ r.0, (sym c.requires.reading_value.0 ∙ r.1.1, record { key-is = refl; points = rw (← q.key-is) at q.points }))
 
 pub returns-in-Ok : goal.returns-in-Ok
 returns-in-Ok c =
