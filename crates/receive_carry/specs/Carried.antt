@@ -1,5 +1,5 @@
 -- A line judged, by the one place that a segment is about: its key's, or where a new sequence goes.
-use Rattle.std.specs.Prelude.{if◌then◌else◌, ℕ, ◌≤◌, ◌≡◌, Bool, true, List, get_or, Option, Some, None}
+use Rattle.std.specs.Prelude.{if◌then◌else◌, ℕ, ◌≤◌, ◌≡◌, Bool, List, get_or, Option, Some, None}
 use Rattle.rules.specs.Numbers.{data_most}
 use Rattle.rules.specs.Places.{free_place, no_place}
 use Rattle.rules.specs.Receiving.{open_place, effect_of, Reception, reception_of}

@@ -1,5 +1,5 @@
 -- The steps of the segment call, one after the other, are its rule.
-use Rattle.std.specs.Prelude.{Option, Some, None, Result, Ok, Err}
+use Rattle.std.specs.Prelude.{Option, Some, Result, Ok, Err}
 use Prim.Native.Nat.{ℕ, zero, suc, ◌≤◌}
 use Rattle.rules.specs.Numbers.{data_most}
 use mathlib.Core.Path.{◌≡◌, refl, sym, ap, ◌∙◌}

@@ -10,7 +10,7 @@ use Rattle.rules.specs.Refusals.{nowhere, unplaced, Check, ◌when◌, accepted,
 use Rattle.rules.specs.Places.{no_place, is_at}
 use Rattle.rules.specs.Receiving.{Reception, received_at, unreceived, segment_checks, segment}
 use Rattle.rules.specs.Summary.{Counted, counting, summary_sound, row_for, fits, took, billed, summary_checks, row_checks, total_checks, segment_sums, segment_checks_with, segment_with}
-use Rattle.rules.proofs.Refusals.{Least, each_append, accepted-first, accepted-nowhere, first-passed, first-met, fault-first, first-each}
+use Rattle.rules.proofs.Refusals.{Least, each_append, accepted-first, accepted-nowhere, first-passed, first-met, fault-first}
 use Rattle.rules.proofs.Least.{zero-accepted, segment-least}
 use Rattle.rules.specs.declared.Fault.{Fault}
 use Rattle.rules.specs.declared.Key.{Key}

@@ -1,4 +1,4 @@
-use Rattle.std.proofs.Common.{◌≡◌, Some, None, true, false, sym, ◌∙◌, arith}
+use Rattle.std.proofs.Common.{◌≡◌, Some, true, false, sym, ◌∙◌, arith}
 use Rattle.rules.specs.Summary.{row_for}
 use Rattle.receive_count.proofs.Counting.{last-number, room-is}
 use Rattle.receive_count.proofs.judge.Goals as goal

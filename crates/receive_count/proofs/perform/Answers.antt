@@ -1,7 +1,6 @@
 use Rattle.std.specs.Prelude.{refl}
 use Rattle.std.proofs.Common.{◌∙◌}
 use Rattle.rules.proofs.Rows.{row-for-within}
-use Rattle.rules.proofs.Fitting.{length-seat}
 use Rattle.receive_count.proofs.Counting.{seated-room, sums-is}
 use Rattle.receive_count.proofs.perform.Goals as goal
 
