@@ -79,15 +79,7 @@ fn readable(
     ensures read { (f : Fields) → result ≡ Ok f → (is_sound ≡ true) × ((store_least ≤ store) × (reading ≡ Ok f)) }
     ensures some { ((x : Fault) → reading ≡ Err x → x.number ≡ 0 → ⊥) → (x : Fault) → result ≡ Err x → x.number ≡ 0 → ⊥ }
 {
-    if !is_sound {
-        return Err(unplaced(Refusal::Unsound));
-    }
-    if store < rules::STORE {
-        return Err(unplaced(Refusal::StoreShort));
-    }
-    if report < rules::RECORD {
-        return Err(unplaced(Refusal::ReportShort));
-    }
+    lent::areas(is_sound, store, report, rules::RECORD).map_err(unplaced)?;
     reading
 }
 
