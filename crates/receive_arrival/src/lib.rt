@@ -32,15 +32,7 @@ fn refused(t: &Table, r: Refusal) -> Received
 fn judge(sound: bool, store: usize, report: usize, step: u32) -> Result<(), Refusal>
     ensures { number_if result ≡ first (area_checks sound store report step) }
 {
-    if !sound {
-        return Err(Refusal::Unsound);
-    }
-    if store < rules::STORE {
-        return Err(Refusal::StoreShort);
-    }
-    if report < rules::REPORT_ARRIVAL {
-        return Err(Refusal::ReportShort);
-    }
+    lent::areas(sound, store, report, rules::REPORT_ARRIVAL)?;
     if 2147483648 <= step {
         return Err(Refusal::StepBack);
     }
