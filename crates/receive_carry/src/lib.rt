@@ -2,13 +2,13 @@
 #![tactic(auto)]
 
 ghost use Rattle.std.specs.Prelude.{if◌then◌else◌, ◌≡◌, List, ℕ, ◌+◌, ◌≤◌, length};
-ghost use Rattle.rules.specs.Numbers.{parameter_most, data_most, store_least};
+ghost use Rattle.rules.specs.Numbers.{store_least};
 ghost use Rattle.rules.specs.Records.{delivered, lost};
 ghost use Rattle.rules.specs.Places.{free_place};
 ghost use Rattle.rules.specs.Receiving.{open_place, longer};
 ghost use Rattle.receive_lines.specs.Telling.{Tells};
 ghost use Rattle.receive_perform.specs.Performing.{Fits, Leads};
-ghost use Rattle.receive_carry.specs.Carried.{found_if, held_if, taken_to, saving_from, told_of, telling_of, begun_by, Holds, Fit, carried_at};
+ghost use Rattle.receive_carry.specs.Carried.{found_if, held_if, taken_to, saving_from, told_of, telling_of, begun_by, Holds, carried_at};
 
 mod judged;
 
@@ -55,7 +55,7 @@ impl Judged {
 
     // .. and of one that goes on with it.
     fn longer(&self) -> Place
-        ensures { result ≡ longer self.now.held self.now.key self.now.fields.heading self.now.length }
+        ensures { let j = self.now in result ≡ longer j.held j.key j.fields.heading j.length }
     {
         let p = &self.held;
         let octets = p.octets + u16::from(self.length);
@@ -71,7 +71,7 @@ impl Judged {
 
     // An unsegmented parameter is delivered at once and touches no place.
     fn unsegmented(&self) -> Verdict
-        ensures { result ≡ telling_of delivered 0 self.now.fields.heading.instruction 1 self.now.length (taken_to self.now.fields.information self.now.held (Decision.Delivered (Part.OfParameter self.now.fields.information self.now.length))) }
+        ensures { let j = self.now in result ≡ telling_of delivered 0 j.fields.heading.instruction 1 j.length (taken_to j.fields.information j.held (Decision.Delivered (Part.OfParameter j.fields.information j.length))) }
     {
         let part = Part::OfParameter {
             start: self.fields.information,
@@ -85,7 +85,7 @@ impl Judged {
 
     // A segment that breaks its open sequence: both are lost, and the place is free.
     fn lose(&self, cause: u8) -> Verdict
-        ensures { result ≡ telling_of lost cause self.now.held.instruction (self.now.held.segments + 1) (self.now.held.octets + self.now.length) (taken_to self.now.fields.information free_place (Decision.Lost cause (Some self.now.at))) }
+        ensures { let j = self.now in result ≡ telling_of lost cause j.held.instruction (j.held.segments + 1) (j.held.octets + j.length) (taken_to j.fields.information free_place (Decision.Lost cause (Some j.at))) }
     {
         Verdict {
             told: Some(told(rules::LOST, cause, &self.longer())),
@@ -95,7 +95,7 @@ impl Judged {
 
     // .. and one that is lost alone, since no sequence is open: the place stays.
     fn stray(&self, cause: u8) -> Verdict
-        ensures { result ≡ telling_of lost cause self.now.fields.heading.instruction 1 self.now.length (taken_to self.now.fields.information self.now.held (Decision.Lost cause None)) }
+        ensures { let j = self.now in result ≡ telling_of lost cause j.fields.heading.instruction 1 j.length (taken_to j.fields.information j.held (Decision.Lost cause None)) }
     {
         Verdict {
             told: Some(told(rules::LOST, cause, &self.begun())),
@@ -105,7 +105,7 @@ impl Judged {
 
     // Lines 1, 4, 5 and 6: what was saved, if anything, and this segment are lost.
     fn broken(&self, cause: u8) -> Verdict
-        ensures { result ≡ telling_of lost cause (if self.now.found then self.now.held.instruction else self.now.fields.heading.instruction) ((held_if self.now.found self.now.held).segments + 1) ((held_if self.now.found self.now.held).octets + self.now.length) (taken_to self.now.fields.information (if self.now.found then free_place else self.now.held) (Decision.Lost cause (found_if self.now.found self.now.at))) }
+        ensures { let j = self.now in result ≡ telling_of lost cause (if j.found then j.held.instruction else j.fields.heading.instruction) ((held_if j.found j.held).segments + 1) ((held_if j.found j.held).octets + j.length) (taken_to j.fields.information (if j.found then free_place else j.held) (Decision.Lost cause (found_if j.found j.at))) }
     {
         if self.found {
             self.lose(cause)
@@ -116,7 +116,7 @@ impl Judged {
 
     // Line 2: what was saved is lost, and this segment starts the sequence in the same place.
     fn restart(&self) -> Verdict
-        ensures { result ≡ telling_of lost 3 self.now.held.instruction self.now.held.segments self.now.held.octets (saving_from 0 (taken_to self.now.fields.information (begun_by self.now self.now.length) (Decision.Lost 3 (Some self.now.at)))) }
+        ensures { let j = self.now in result ≡ telling_of lost 3 j.held.instruction j.held.segments j.held.octets (saving_from 0 (taken_to j.fields.information (begun_by j j.length) (Decision.Lost 3 (Some j.at)))) }
     {
         Verdict {
             saves: Some(0),
@@ -137,7 +137,7 @@ impl Judged {
 
     // Line 7, none remaining: saved too, and delivered.
     fn finish(&self) -> Verdict
-        ensures { result ≡ telling_of delivered 0 self.now.held.instruction (self.now.held.segments + 1) (self.now.held.octets + self.now.length) (saving_from self.now.held.octets (taken_to self.now.fields.information free_place (Decision.Delivered (Part.OfStore self.now.at (self.now.held.octets + self.now.length))))) }
+        ensures { let j = self.now in result ≡ telling_of delivered 0 j.held.instruction (j.held.segments + 1) (j.held.octets + j.length) (saving_from j.held.octets (taken_to j.fields.information free_place (Decision.Delivered (Part.OfStore j.at (j.held.octets + j.length))))) }
     {
         let whole = self.longer();
         let part = Part::OfStore {
@@ -153,7 +153,7 @@ impl Judged {
 
     // Line 7, more remaining: saved.
     fn go_on(&self) -> Verdict
-        ensures { result ≡ saving_from self.now.held.octets (taken_to self.now.fields.information (longer self.now.held self.now.key self.now.fields.heading self.now.length) (Decision.Saved self.now.at)) }
+        ensures { let j = self.now in result ≡ saving_from j.held.octets (taken_to j.fields.information (longer j.held j.key j.fields.heading j.length) (Decision.Saved j.at)) }
     {
         Verdict {
             saves: Some(self.held.octets),

@@ -3,10 +3,8 @@
 
 ghost use Rattle.std.specs.Prelude.{◌≡◌, false, ◌≤◌, ◌<◌};
 ghost use Rattle.rules.specs.Numbers.{address_most, place_count};
-ghost use Rattle.rules.specs.Places.{place_of, lowest_free};
 ghost use Rattle.rules.specs.Receiving.{address_at, key_of};
 ghost use Rattle.param_read.specs.Reading.{reading};
-ghost use Rattle.table.specs.Seeking.{Points};
 ghost use Rattle.receive_seek.specs.Seeking.{Seeks};
 
 use rules::{Address, Fault, Fields, Key, Place, Span, Table};

@@ -2,7 +2,7 @@
 #![tactic(auto)]
 
 ghost use Rattle.std.specs.Prelude.{◌≡◌, true, List, ℕ, ◌≤◌, ◌<◌, length, drop, get_or};
-ghost use Rattle.rules.specs.Numbers.{parameter_most, store_least, place_count};
+ghost use Rattle.rules.specs.Numbers.{store_least, place_count};
 ghost use Rattle.rules.specs.Refusals.{unplaced, judged_at};
 ghost use Rattle.rules.specs.Records.{record_length};
 ghost use Rattle.rules.specs.Places.{no_place};
