@@ -7,7 +7,7 @@ ghost use Rattle.rules.specs.Promises.{OfOpening, OfClock, OfRelease, OfSending}
 ghost use Rattle.host.specs.Promises.{HostArrival, HostDelivery};
 
 use host_numbers::{CDecision, CPart};
-use rules::{Opened, Request, Sent, Swept, Table};
+use rules::{Decision, Opened, Request, Sent, Swept, Table};
 
 #[repr(C)]
 #[derive(Clone, Copy)]
@@ -45,11 +45,9 @@ pub fn egrynnol_4_arrival(
     ensures { HostArrival t m.old store.old report.old time association s.now result m.new store.new report.new }
 {
     let r = receiver::arrival(t, m, store, report, time, association, s);
-    let table = r.table;
-    let decision = r.decision;
     CReceived {
-        table,
-        decision: host_numbers::c_decision_of(decision),
+        table: r.table,
+        decision: CDecision::from(r.decision),
         refusal: r.refusal,
         records: r.records,
         position: r.position,
@@ -85,7 +83,7 @@ pub fn egrynnol_4_release(
 pub fn egrynnol_4_delivery<'a>(decision: CDecision, s: &'a [u8], store: &'a [u8]) -> CPart
     ensures { HostDelivery decision s.now store.now result }
 {
-    let d = host_numbers::decision_of(decision);
+    let d = Decision::from(decision);
     let part = receiver::delivery(d, s, store);
     host_numbers::located_at(d, part.len())
 }

@@ -12,7 +12,6 @@ use native.Mathlib.Nat.{suc-ne-zero}
 use borrow.Author.Tests.{leb-true, ltb-true, ne_eqb}
 use Rattle.rules.specs.Numbers.{place_count, stretch_length, place_start}
 use Rattle.rules.specs.Delivery.{part_of, part_of_place, delivery}
-use Rattle.rules.specs.declared.Part.{Part}
 use Rattle.rules.specs.declared.Part.TheVariants.{OfParameter, OfStore}
 use Rattle.rules.specs.declared.Decision.{Decision}
 use Rattle.rules.specs.declared.Decision.TheVariants.{Refused, Saved, Delivered, Lost}
@@ -25,9 +24,6 @@ none-nowhere (Saved p) = refl
 none-nowhere (Delivered (OfParameter start n)) = refl
 none-nowhere (Delivered (OfStore p n)) = refl
 none-nowhere (Lost cause found) = refl
-
-pub placed : (d : Decision) (part : Part) (p m n : ℕ) → d ≡ Delivered part → part ≡ OfStore p m → Within d n → 1 ≤ n → p < place_count
-placed d part p m n e f w some = (rw (e, f) at w) some
 
 -- so many octets from a position on are taken back as they are, and so are none
 inside-taken : (l : List ℕ) (start n : ℕ) → leb (start + n) (length l) ≡ true → take (length (take n (drop start l))) (drop start l) ≡ take n (drop start l)

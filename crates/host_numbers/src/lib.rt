@@ -2,7 +2,7 @@
 #![tactic(auto)]
 
 ghost use Rattle.std.specs.Prelude.{◌≡◌};
-ghost use Rattle.rules.specs.Places.{number_of, found_at};
+ghost use Rattle.rules.specs.Places.{found_at};
 ghost use Rattle.host_numbers.specs.Crossing.{c_decision_of, decision_of, located, Within};
 
 use rules::{Decision, Part};
@@ -27,35 +27,19 @@ pub struct CPart {
     pub source: u8,
 }
 
-fn place_number(place: Option<usize>) -> usize
-    ensures { result ≡ number_of place }
-{
-    match place {
-        Some(p) => p,
-        None => rules::PLACES,
-    }
-}
+impl From<Decision> for CDecision {
+    ghost from_gives = { λ d o. o ≡ c_decision_of d };
 
-fn found_of(place: usize) -> Option<usize>
-    ensures { result ≡ found_at place }
-{
-    if place == rules::PLACES {
-        return None;
-    }
-    Some(place)
-}
-
-pub fn c_decision_of(decision: Decision) -> CDecision
-    ensures { result ≡ c_decision_of decision }
-{
-    match decision {
-        Decision::Refused => numbers(0, 0, 0, 0, 0),
-        Decision::Saved(place) => numbers(1, place, 0, 0, 0),
-        Decision::Delivered(part) => match part {
-            Part::OfParameter { start, length } => numbers(2, 0, start, length, 0),
-            Part::OfStore { place, length } => numbers(3, place, 0, length, 0),
-        },
-        Decision::Lost(cause, found) => numbers(4, place_number(found), 0, 0, cause),
+    fn from(decision: Decision) -> CDecision {
+        match decision {
+            Decision::Refused => numbers(0, 0, 0, 0, 0),
+            Decision::Saved(place) => numbers(1, place, 0, 0, 0),
+            Decision::Delivered(Part::OfParameter { start, length }) => numbers(
+                2, 0, start, length, 0,
+            ),
+            Decision::Delivered(Part::OfStore { place, length }) => numbers(3, place, 0, length, 0),
+            Decision::Lost(cause, found) => numbers(4, found.unwrap_or(rules::PLACES), 0, 0, cause),
+        }
     }
 }
 
@@ -71,28 +55,35 @@ fn numbers(kind: u8, place: usize, start: usize, length: usize, cause: u8) -> CD
     }
 }
 
-pub fn decision_of(o: CDecision) -> Decision
-    ensures { result ≡ decision_of o }
+// The place that a number of C names; 16 names none.
+fn found_of(place: usize) -> Option<usize>
+    ensures { result ≡ found_at place }
 {
-    if o.kind == 1 {
-        return Decision::Saved(o.place);
+    if place == rules::PLACES {
+        None
+    } else {
+        Some(place)
     }
-    if o.kind == 2 {
-        return Decision::Delivered(Part::OfParameter {
-            start: o.start,
-            length: o.length,
-        });
+}
+
+impl From<CDecision> for Decision {
+    ghost from_gives = { λ o d. d ≡ decision_of o };
+
+    fn from(o: CDecision) -> Decision {
+        match o.kind {
+            1 => Decision::Saved(o.place),
+            2 => Decision::Delivered(Part::OfParameter {
+                start: o.start,
+                length: o.length,
+            }),
+            3 => Decision::Delivered(Part::OfStore {
+                place: o.place,
+                length: o.length,
+            }),
+            4 => Decision::Lost(o.cause, found_of(o.place)),
+            _ => Decision::Refused,
+        }
     }
-    if o.kind == 3 {
-        return Decision::Delivered(Part::OfStore {
-            place: o.place,
-            length: o.length,
-        });
-    }
-    if o.kind == 4 {
-        return Decision::Lost(o.cause, found_of(o.place));
-    }
-    Decision::Refused
 }
 
 // Where so many delivered octets are.
@@ -104,21 +95,17 @@ pub fn located_at(decision: Decision, n: usize) -> CPart
         return nowhere();
     }
     match decision {
-        Decision::Delivered(part) => match part {
-            Part::OfParameter { start, length: _ } => CPart {
-                start,
-                length: n,
-                source: 0,
-            },
-            Part::OfStore { place, length: _ } => CPart {
-                start: rules::STRETCH * place,
-                length: n,
-                source: 1,
-            },
+        Decision::Delivered(Part::OfParameter { start, .. }) => CPart {
+            start,
+            length: n,
+            source: 0,
         },
-        Decision::Refused => nowhere(),
-        Decision::Saved(_) => nowhere(),
-        Decision::Lost(_, _) => nowhere(),
+        Decision::Delivered(Part::OfStore { place, .. }) => CPart {
+            start: rules::STRETCH * place,
+            length: n,
+            source: 1,
+        },
+        Decision::Refused | Decision::Saved(_) | Decision::Lost(_, _) => nowhere(),
     }
 }
 
