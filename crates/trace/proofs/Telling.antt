@@ -19,9 +19,7 @@ use Rattle.trace_events.specs.Events.{Stored, state_with, replay_of, step_of}
 use Rattle.trace_events.specs.declared.Replay.{Replay}
 use Rattle.trace_turns.specs.Turns.{Front, Waiting, Stopping, Registering, Seeing, Walked, OfWalk, kind_of, met_of, waiting, stopping, registering, happening, at_item, walked}
 use Rattle.trace_turns.specs.declared.Walk.{Walk}
-use Rattle.trace.specs.Watching.{observer_of, ended_by, opens_next, first_if, told_by, Begins, count_by, stops_at, lines_of, memory_of, is_stop, OfTurn, turned}
-use Rattle.trace.specs.declared.Watcher.{Watcher}
-use Rattle.trace.specs.declared.Watcher.TheVariants.{Lines, Records, Totals}
+use Rattle.trace.specs.Watching.{Watcher, Lines, Records, Totals, observer_of, ended_by, opens_next, first_if, told_by, Begins, count_by, stops_at, lines_of, memory_of, is_stop, OfTurn, turned}
 
 pub ended_is : (held : Replay) (store : Stored) (which : Watcher) (events : ℕ) (stops : Bool)
     → ended_by which held.table.places store.summary stops ≡ (observer_of which).ends events (state_with held.table store) stops

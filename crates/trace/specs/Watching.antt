@@ -15,9 +15,13 @@ use Rattle.trace_turns.specs.declared.Met.{Met}
 use Rattle.trace_turns.specs.declared.Met.TheVariants as met
 use Rattle.trace_lines.specs.Printing as lines
 use Rattle.trace_records.specs.Listing as records
-use Rattle.trace.specs.declared.Watcher.{Watcher}
-use Rattle.trace.specs.declared.Watcher.TheVariants.{Lines, Records, Totals}
 use Rattle.trace.specs.declared.Progress.{Progress}
+
+-- who watches: the programs replay, records, totals
+pub data Watcher : Type 0 where
+  Lines : Watcher
+  Records : Watcher
+  Totals : Watcher
 
 -- the observer that a watcher is
 abbrev pub observer_of : Watcher → Observer ℕ

@@ -41,23 +41,23 @@ impl From<Told> for Over {
 }
 
 // Who watches, and how the lines begin that tell of a failure, as 'replay: cannot read'.
-#[derive(Clone, Copy)]
-struct Job<'a> {
+#[derive(Drop)]
+struct Job<'a, W> {
     rt: &'a HostRuntime,
-    which: Watcher,
+    who: &'a W,
     unread: &'a [u8],
     unwritten: &'a [u8],
 }
 
-impl Job<'_> {
+impl<W: Watcher> Job<'_, W> {
     // Prints. Where that fails, it is told.
-    fn print(self, out: &[u8]) -> Result<(), Told> {
+    fn print(&self, out: &[u8]) -> Result<(), Told> {
         streams::write(self.rt, &mut self.rt.stdout(), self.unwritten, out)
     }
 
     // Reads more, past the octets that wait for the rest of their record. Where the input has ended, so does the replay.
     // Where reading failed, it ends too, with no 'stop': that line says what was found in the trace, and nothing was.
-    fn refill(self, s: &mut Session, areas: &mut Areas) -> Result<(), Over> {
+    fn refill(&self, s: &mut Session, areas: &mut Areas) -> Result<(), Over> {
         let have = s.have;
         let n = streams::read(
             self.rt,
@@ -66,7 +66,7 @@ impl Job<'_> {
             &mut areas.input[have..],
         )?;
         if n == 0 {
-            let end = trace::ending(self.which, s.replay, &areas.summary, have, &mut areas.out);
+            let end = trace::ending(self.who, s.replay, &areas.summary, have, &mut areas.out);
             self.print(&areas.out[..end])?;
             return Err(Over);
         }
@@ -75,10 +75,10 @@ impl Job<'_> {
     }
 
     // A block of the octets that are there: its lines are printed, and what is left moves to the front. Where nothing was used, that is no whole record, and more is read.
-    fn step(self, s: &mut Session, areas: &mut Areas) -> Result<(), Over> {
+    fn step(&self, s: &mut Session, areas: &mut Areas) -> Result<(), Over> {
         let have = s.have;
         let t = trace::block(
-            self.which,
+            self.who,
             s.events,
             s.replay,
             &mut areas.summary,
@@ -103,12 +103,12 @@ impl Job<'_> {
 }
 
 // All of it: the session as it ended. unread and unwritten are how the lines begin that tell of a failure.
-pub fn run(rt: &HostRuntime, which: Watcher, unread: &[u8], unwritten: &[u8]) -> Session
+pub fn run<W: Watcher>(rt: &HostRuntime, who: &W, unread: &[u8], unwritten: &[u8]) -> Session
     ensures { result.have ≤ 65536 }
 {
     let job = Job {
         rt,
-        which,
+        who,
         unread,
         unwritten,
     };
@@ -135,10 +135,10 @@ pub fn run(rt: &HostRuntime, which: Watcher, unread: &[u8], unwritten: &[u8]) ->
 
 // The program of a watcher, which was started with so many words, its own name among them. Where it was given an argument it tells how it is used, and reads nothing: a trace that is named and not
 // read must not pass for an empty one.
-pub fn program(
+pub fn program<W: Watcher>(
     rt: &HostRuntime,
     words: usize,
-    which: Watcher,
+    who: &W,
     usage: &[u8],
     unread: &[u8],
     unwritten: &[u8],
@@ -148,5 +148,5 @@ pub fn program(
     if streams::misused(rt, words, usage) {
         return None;
     }
-    Some(run(rt, which, unread, unwritten))
+    Some(run(rt, who, unread, unwritten))
 }

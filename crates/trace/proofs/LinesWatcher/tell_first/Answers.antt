@@ -1,0 +1,5 @@
+use Rattle.trace_lines.proofs.Writers.{writes_none}
+use Rattle.trace.proofs.LinesWatcher.tell_first.Goals as goal
+
+pub returns-clause-wrote : goal.returns-clause-wrote
+returns-clause-wrote c = writes_none _
