@@ -66,6 +66,7 @@ fn empty_table(entries: [Entry; 8], timer: u32, clock: u32) -> Table
 }
 
 // The unopened table, all zero, and why.
+// As it was: (iv) a refused for each answer: the answers of the calls differ in all but the number.
 fn refused(refusal: Refusal) -> Opened
     ensures { result ≡ unopened_by (number_of refusal) }
 {

@@ -9,6 +9,7 @@ ghost use Rattle.param_fields.specs.Fields.{octet_field, last_field, known_field
 use refusals::Refusal;
 use rules::{Context, Entry, Fault, Reference, Remaining, Span};
 
+// As it was: (i) reference 255 stands for none, as in a parameter itself: reference_of of rules says so.
 #[derive(Clone, Copy, PartialEq, Eq)]
 pub struct Sequence {
     pub new: bool,
@@ -17,6 +18,7 @@ pub struct Sequence {
 }
 
 // A refusal that blames the octet at a position.
+// As it was: (iv) `as u16`, since no From narrows a position; a TryFrom would add an error that the bound rules out.
 fn fault(refusal: Refusal, at: usize) -> Fault
     requires { at ≤ parameter_most }
     ensures { result ≡ record { number = number_of refusal; position = at } }
@@ -52,6 +54,7 @@ pub fn last_field(s: &[u8], at: usize) -> Result<(u8, usize), Fault>
 }
 
 // The context with its kind, where it is not padded and is registered; its last octet is at a position.
+// As it was: (i) the kind is a number, 0 where there is none: kind_of of rules answers it.
 fn known(
     registry: [Entry; 8],
     context: Context,

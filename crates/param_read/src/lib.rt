@@ -16,6 +16,7 @@ pub struct Addresses {
 }
 
 // Both addresses, where the kind has them, and where the information starts.
+// As it was: (i) the kind is a number: has_addresses of rules asks it.
 #[tactic(auto, using(crate::proofs::Chain::steps))]
 fn addresses_field(s: &[u8], kind: u8, at: usize) -> Result<Addresses, Fault>
     requires { length s.now ≤ parameter_most }
@@ -74,5 +75,5 @@ pub fn read(registry: [Entry; 8], s: &[u8]) -> Result<Fields, Fault>
 pub fn tail(s: &[u8], at: usize) -> &[u8]
     ensures { result.now ≡ drop at s.now }
 {
-    if at <= s.len() { &s[at..] } else { &s[..0] }
+    &s[at.min(s.len())..]
 }
