@@ -75,15 +75,7 @@ fn judge(
     if !both.summary {
         return Err(Refusal::Unsound);
     }
-    if !both.table {
-        return Err(Refusal::Unsound);
-    }
-    if store < rules::STORE {
-        return Err(Refusal::StoreShort);
-    }
-    if report < rules::REPORT_ARRIVAL {
-        return Err(Refusal::ReportShort);
-    }
+    lent::areas(both.table, store, report, rules::REPORT_ARRIVAL)?;
     if area < rules::PARAMETER {
         return Err(Refusal::AreaShort);
     }
