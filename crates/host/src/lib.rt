@@ -9,6 +9,7 @@ ghost use Rattle.host.specs.Promises.{HostArrival, HostDelivery};
 use host_numbers::{CDecision, CPart};
 use rules::{Decision, Opened, Request, Sent, Swept, Table};
 
+// As it was: the C interface has 0 for no refusal and 65535 for no position, and its calls take their parameters one by one.
 #[repr(C)]
 #[derive(Clone, Copy)]
 pub struct CReceived {

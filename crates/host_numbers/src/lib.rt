@@ -8,6 +8,7 @@ ghost use Rattle.host_numbers.specs.Crossing.{c_decision_of, decision_of, locate
 use rules::{Decision, Part};
 
 // A decision as numbers. kind: 0 refused, 1 saved, 2 delivered of the parameter, 3 delivered of the store, 4 lost. A place of 16 is none.
+// As it was: the C interface has these numbers, and no enum or Option.
 #[repr(C)]
 #[derive(Clone, Copy)]
 pub struct CDecision {
@@ -19,6 +20,7 @@ pub struct CDecision {
 }
 
 // A delivery: so many octets from start on, of the parameter (source 0) or of the store (source 1).
+// As it was: the C interface has a number for the source.
 #[repr(C)]
 #[derive(Clone, Copy)]
 pub struct CPart {

@@ -11,6 +11,7 @@ use rules::{Decision, Request, Table};
 
 // number is 0, or that of the first condition that fails. The last segment is the first length octets of the area; with it, the decision and the store, the receiver's delivery
 // is the data.
+// As it was: number is a number, 0 for none, as the definitions of loopback (looped_of, OfLoopback) give the answer.
 #[derive(Clone, Copy)]
 pub struct Looped {
     pub table: Table,
@@ -38,6 +39,7 @@ pub fn for_segment(q: Request, k: usize) -> Request
 }
 
 // The first n octets of the area are received, at the table's own time.
+// As it was: table, summary, store and report area go one by one, as the public calls take them from C.
 pub fn receive(
     t: Table,
     association: u16,

@@ -15,6 +15,7 @@ use refusals::Refusal;
 use rules::{Decision, Request, Table};
 
 // Nothing is done, and why.
+// As it was: the number of a refusal, since the sender's answer (Sent, of the rules) brings one too.
 fn refused(t: Table, number: u8) -> Looped
     ensures { result ≡ record { table = t; decision = Decision.Refused; length = 0; number = number } }
 {
@@ -85,6 +86,7 @@ fn judge(
     judge_count(m, association)
 }
 
+// As it was: table, summary, store and areas go one by one, as the public calls take them from C.
 // Cuts the data, receives each segment at the same table, and answers with the last one's decision; or refuses, and nothing is changed.
 pub fn loopback(
     t: Table,

@@ -67,6 +67,7 @@ fn pass(
 {
     let next = Table { clock: time, ..t };
     let r = receive_segment::segment(next, true, true, m, store, report, association, s);
+    // As it was: the answer's own number, which the rules' type Received has; 22 is TotalLarge.
     if r.refusal == 22 {
         return refused(&t, Refusal::TotalLarge);
     }
@@ -99,6 +100,7 @@ fn lose(
     let past = usize::from(w.records) * rules::RECORD;
     let behind = &mut report[past..];
     let own = receive_segment::segment(next, true, true, &mut trial, store, behind, association, s);
+    // As it was: the answer's own number, as in pass.
     if own.refusal == 22 {
         return refused(&t, Refusal::TotalLarge);
     }
@@ -107,6 +109,7 @@ fn lose(
     beside(own, w.records)
 }
 
+// As it was: parameters one by one, here and in the two above, as the C interface takes them.
 // A segment arrives at a time. At the table's own time there is no work of the clock's.
 pub fn arrival(
     t: Table,

@@ -129,6 +129,7 @@ fn sweep(
     }
 }
 
+// As it was: parameters one by one, here and below, as the C interface takes them.
 // Sets the clock, and loses every sequence that has grown too old.
 pub fn clock(t: Table, m: &mut [u64; rules::SUMMARY], report: &mut [u8], time: u32) -> Swept
     ensures { OfClock t m.old report.old time result m.new report.new }

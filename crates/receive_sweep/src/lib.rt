@@ -41,6 +41,7 @@ fn cause(which: Test) -> u8
 }
 
 // A sequence's loss.
+// As it was: a From would have to take a pair, the place and a cause.
 fn lost(p: &Place, cause: u8) -> Record
     ensures { result ≡ loss_of cause p.now }
 {

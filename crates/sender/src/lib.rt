@@ -101,6 +101,7 @@ fn emit(
         return Err(Refusal::AreaShort);
     }
     param_write::write(area, g, origin, destination, information);
+    // As it was: narrowed by `as`, which is proved to fit; TryFrom would bring an error that never comes.
     Ok(Sent {
         refusal: 0,
         count: p.count as u8,
@@ -141,6 +142,7 @@ fn refused(r: Refusal) -> Sent
     }
 }
 
+// As it was: parameters one by one, as the C interface takes them.
 // Writes one segment of the data to the front of the area, and answers the count of segments and its length; or refuses.
 pub fn sending(
     t: Table,
