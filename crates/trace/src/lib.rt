@@ -269,6 +269,7 @@ fn step<W: Watcher>(
 }
 
 // The records at the front of an input, one after the other, as long as out has room for what is printed of one.
+// As it was: no chain or for, since each turn says how far the next begins (iv).
 fn run<W: Watcher>(
     who: &W,
     first: u64,

@@ -25,6 +25,7 @@ pub enum Event {
 }
 
 // An event that happened: its kind, and its answer but for the table. A call that decides nothing has the decision of a refusal.
+// As it was: kind, position and refusal are numbers, and so is a record's kind: happening_of, line_for and item_of of the specs speak of them as numbers (i).
 #[derive(Clone, Copy)]
 pub struct Happening {
     pub decision: Decision,

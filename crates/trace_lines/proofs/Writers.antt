@@ -1,5 +1,5 @@
 -- One method of a writer after another.
-use Rattle.std.proofs.Common.{ℕ, ◌≡◌, List, [], ◌++◌, sym, ◌∙◌, refl, add-zero}
+use Rattle.std.proofs.Common.{ℕ, List, [], ◌++◌, sym, ◌∙◌, refl, add-zero}
 use Rattle.octets.proofs.Splice.{splice-nil, wrote_then}
 use Rattle.trace_lines.specs.Writers.{Writes}
 use Rattle.trace_lines.specs.declared.Writer.{Writer}

@@ -53,6 +53,7 @@ fn record_of(l: &[u8]) -> Record
 }
 
 // A digit in hex, a capital letter from ten on.
+// As it was: the kit's hex writes small letters, and what the programs print stays (i).
 fn hex_digit(x: u8) -> u8
     requires { x ≤ 15 }
     ensures { result ≡ hex_digit x }

@@ -1,6 +1,5 @@
 use native.Mathlib.Omega.{arith}
-use lib.ListN.{drop_of_length-le}
-use Rattle.trace_records.proofs.Writing.{writing-starts, writing-on, writing-ends}
+use Rattle.trace_records.proofs.Writing.{writing-starts, writing-on}
 use Rattle.trace_records.proofs.Listing.{hex-next}
 use Rattle.trace_records.proofs.put_hex.Goals as goal
 
