@@ -31,7 +31,7 @@ fn refused(t: Table, number: u8) -> Looped
 fn has_vacant(t: &Table) -> bool
     ensures { result ≡ is_at (lowest_free t.now.places) }
 {
-    table::lowest_free(t.places).is_some()
+    table::lowest_free(&t.places).is_some()
 }
 
 // Whether the association has a row, or can get one.
@@ -72,7 +72,7 @@ fn judge(
 ) -> Result<(), Refusal>
     ensures { number_if result ≡ first (fit_checks t.now m.now association store report area) }
 {
-    let both = sound::are_sound(*t, m);
+    let both = sound::are_sound(t, m);
     if !both.summary {
         return Err(Refusal::Unsound);
     }

@@ -92,7 +92,7 @@ fn listed(registry: &[u8], timer: u32) -> Result<[Entry; 8], Refusal>
     }
     let entries = entries_of(registry);
     let known = all_entries(&entries, length / 3);
-    let apart = registry::all_apart(entries);
+    let apart = registry::all_apart(&entries);
     if !(known & apart) {
         return Err(Refusal::RegistryBad);
     }

@@ -56,13 +56,13 @@ pub fn last_field(s: &[u8], at: usize) -> Result<(u8, usize), Fault>
 // The context with its kind, where it is not padded and is registered; its last octet is at a position.
 // As it was: (i) the kind is a number, 0 where there is none: kind_of of rules answers it.
 fn known(
-    registry: [Entry; 8],
+    registry: &[Entry; 8],
     context: Context,
     padded: bool,
     last: usize,
 ) -> Result<(Context, u8, usize), Fault>
     requires { last ≤ 1 }
-    ensures { result ≡ known_field registry context «padded» last }
+    ensures { result ≡ known_field registry.now context «padded» last }
 {
     let kind = registry::kind_of(registry, context);
     if padded {
@@ -75,9 +75,9 @@ fn known(
 }
 
 #[tactic(auto, using(crate::proofs::Chain::steps))]
-pub fn context_field(registry: [Entry; 8], s: &[u8]) -> Result<(Context, u8, usize), Fault>
+pub fn context_field(registry: &[Entry; 8], s: &[u8]) -> Result<(Context, u8, usize), Fault>
     requires { length s.now ≤ parameter_most }
-    ensures { result ≡ context_field registry s.now }
+    ensures { result ≡ context_field registry.now s.now }
 {
     let x = octet(s, 0)?;
     if 128 <= x {

@@ -41,8 +41,8 @@ fn addresses_field(s: &[u8], kind: u8, at: usize) -> Result<Addresses, Fault>
 
 // A parameter's fields, or number and position of the first check that applies to it.
 #[tactic(auto, using(crate::proofs::Chain::steps))]
-pub fn read(registry: [Entry; 8], s: &[u8]) -> Result<Fields, Fault>
-    ensures { result ≡ reading registry s.now }
+pub fn read(registry: &[Entry; 8], s: &[u8]) -> Result<Fields, Fault>
+    ensures { result ≡ reading registry.now s.now }
 {
     if rules::PARAMETER < s.len() {
         return Err(Fault {

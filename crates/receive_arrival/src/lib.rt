@@ -53,7 +53,7 @@ fn beside(r: Received, timeouts: u8) -> Received
 
 // An arrival at a time at which nothing is due: the table has its new time, unless a total is too large.
 fn pass(
-    t: Table,
+    t: &Table,
     m: &mut [u64; rules::SUMMARY],
     store: &mut [u8],
     report: &mut [u8],
@@ -61,15 +61,15 @@ fn pass(
     association: u16,
     s: &[u8],
 ) -> Received
-    requires allowed { Allowed t m.old store.old report.old time }
-    requires places_value { is_at (first_from (test_of (Test.Aged time t.timer)) t.places 0) ≡ false }
-    ensures { OfArrival t m.old store.old report.old time association s.now result m.new store.new report.new }
+    requires allowed { Allowed t.now m.old store.old report.old time }
+    requires places_value { is_at (first_from (test_of (Test.Aged time t.now.timer)) t.now.places 0) ≡ false }
+    ensures { OfArrival t.now m.old store.old report.old time association s.now result m.new store.new report.new }
 {
-    let next = Table { clock: time, ..t };
-    let r = receive_segment::segment(next, true, true, m, store, report, association, s);
+    let next = Table { clock: time, ..*t };
+    let r = receive_segment::segment(&next, true, true, m, store, report, association, s);
     // As it was: the answer's own number, which the rules' type Received has; 22 is TotalLarge.
     if r.refusal == 22 {
-        return refused(&t, Refusal::TotalLarge);
+        return refused(t, Refusal::TotalLarge);
     }
     r
 }
@@ -77,7 +77,7 @@ fn pass(
 // An arrival at a time at which sequences are due. They are billed in a copy of the summary, and their records stand aside: a total may be too large for the segment after them. The
 // segment's record goes behind theirs.
 fn lose(
-    t: Table,
+    t: &Table,
     m: &mut [u64; rules::SUMMARY],
     store: &mut [u8],
     report: &mut [u8],
@@ -85,24 +85,23 @@ fn lose(
     association: u16,
     s: &[u8],
 ) -> Received
-    requires { Allowed t m.old store.old report.old time }
-    ensures { OfArrival t m.old store.old report.old time association s.now result m.new store.new report.new }
+    requires { Allowed t.now m.old store.old report.old time }
+    ensures { OfArrival t.now m.old store.old report.old time association s.now result m.new store.new report.new }
 {
     let timer = t.timer;
     let which = Test::Aged { time, timer };
     let mut trial = *m;
     if !receive_clock::billed(t, which, &mut trial) {
-        return refused(&t, Refusal::TotalLarge);
+        return refused(t, Refusal::TotalLarge);
     }
     let mut told = [0u8; rules::REPORT];
     let w = receive_sweep::swept(t, &mut told, time, which);
-    let next = w.table;
     let past = usize::from(w.records) * rules::RECORD;
     let behind = &mut report[past..];
-    let own = receive_segment::segment(next, true, true, &mut trial, store, behind, association, s);
+    let own = receive_segment::segment(&w.table, true, true, &mut trial, store, behind, association, s);
     // As it was: the answer's own number, as in pass.
     if own.refusal == 22 {
-        return refused(&t, Refusal::TotalLarge);
+        return refused(t, Refusal::TotalLarge);
     }
     *m = trial;
     octets::put(report, &told[..past]);
@@ -122,19 +121,19 @@ pub fn arrival(
 ) -> Received
     ensures { OfArrival t m.old store.old report.old time association s.now result m.new store.new report.new }
 {
-    let idle = sound::look_idle(t);
-    let is_sound = sound::is_sound(t, idle);
-    let is_summed = sound::is_summed(t, m);
+    let idle = sound::look_idle(&t);
+    let is_sound = sound::is_sound(&t, idle);
+    let is_summed = sound::is_summed(&t, m);
     let step = table::elapsed(time, t.clock);
     if let Err(r) = judge(is_sound & is_summed, store.len(), report.len(), step) {
         return refused(&t, r);
     }
     if time == t.clock {
-        return receive_segment::segment(t, is_sound, is_summed, m, store, report, association, s);
+        return receive_segment::segment(&t, is_sound, is_summed, m, store, report, association, s);
     }
     let timer = t.timer;
-    if receive_sweep::any_due(t, Test::Aged { time, timer }) {
-        return lose(t, m, store, report, time, association, s);
+    if receive_sweep::any_due(&t, Test::Aged { time, timer }) {
+        return lose(&t, m, store, report, time, association, s);
     }
-    pass(t, m, store, report, time, association, s)
+    pass(&t, m, store, report, time, association, s)
 }

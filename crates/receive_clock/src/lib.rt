@@ -54,9 +54,9 @@ fn bill_due(m: &mut [u64; rules::SUMMARY], which: Test, p: &Place) -> bool
 }
 
 // Bills all that a sweep loses, each on top of those before it, so that several of one association are judged by their sum.
-pub fn billed(t: Table, which: Test, m: &mut [u64; rules::SUMMARY]) -> bool
-    ensures value { result ≡ fits m.old (billed m.old (losses which t.places)) }
-    ensures m_after { result ≡ true → m.new ≡ billed m.old (losses which t.places) }
+pub fn billed(t: &Table, which: Test, m: &mut [u64; rules::SUMMARY]) -> bool
+    ensures value { result ≡ fits m.old (billed m.old (losses which t.now.places)) }
+    ensures m_after { result ≡ true → m.new ≡ billed m.old (losses which t.now.places) }
 {
     for p in &t.places {
         if !bill_due(m, which, p) {
@@ -90,10 +90,10 @@ fn bill(
 ) -> Result<bool, Refusal>
     ensures { Billed which time t.now m.old report.now result m.new }
 {
-    let due = receive_sweep::any_due(*t, which);
-    let idle = sound::look_idle(*t);
-    let is_sound = sound::is_sound(*t, idle);
-    let is_summed = sound::is_summed(*t, m);
+    let due = receive_sweep::any_due(t, which);
+    let idle = sound::look_idle(t);
+    let is_sound = sound::is_sound(t, idle);
+    let is_summed = sound::is_summed(t, m);
     judge(is_sound & is_summed, report)?;
     if 2147483648 <= table::elapsed(time, t.clock) {
         return Err(Refusal::StepBack);
@@ -103,7 +103,7 @@ fn bill(
     }
     // A copy: a loss that does not fit may come after others that do.
     let mut trial = *m;
-    if !billed(*t, which, &mut trial) {
+    if !billed(t, which, &mut trial) {
         return Err(Refusal::TotalLarge);
     }
     *m = trial;
@@ -125,7 +125,7 @@ fn sweep(
     match bill(t, m, report, time, which) {
         Err(r) => refused(t, r),
         Ok(false) => passed(t, time),
-        Ok(true) => receive_sweep::swept(*t, report, time, which),
+        Ok(true) => receive_sweep::swept(t, report, time, which),
     }
 }
 

@@ -62,11 +62,11 @@ fn nowhere(reading: Result<Fields, Fault>, key: Key) -> Sought
 
 // Reads a parameter, and seeks the place that it is about. An unsegmented one touches no place.
 // As it was: (i) the clauses reading_value and seeks name t, association and s.
-pub fn seek(t: Table, association: u16, s: &[u8]) -> Sought
-    ensures reading_value { (result.reading ≡ reading t.registry s.now) × (result.search.at < place_count) }
-    ensures seeks { (f : Fields) → result.reading ≡ Ok f → Seeks t (key_of association s.now f) f.heading result }
+pub fn seek(t: &Table, association: u16, s: &[u8]) -> Sought
+    ensures reading_value { (result.reading ≡ reading t.now.registry s.now) × (result.search.at < place_count) }
+    ensures seeks { (f : Fields) → result.reading ≡ Ok f → Seeks t.now (key_of association s.now f) f.heading result }
 {
-    let reading = param_read::read(t.registry, s);
+    let reading = param_read::read(&t.registry, s);
     match reading {
         Err(_) => nowhere(reading, table::free_place().key),
         Ok(f) => {
@@ -75,7 +75,7 @@ pub fn seek(t: Table, association: u16, s: &[u8]) -> Sought
             if alone {
                 return nowhere(reading, key);
             }
-            let search = table::search_for(t.places, key);
+            let search = table::search_for(&t.places, &key);
             Sought {
                 reading,
                 key,

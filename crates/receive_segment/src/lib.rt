@@ -174,7 +174,7 @@ fn received(t: Table, v: Verdict) -> Received
 // first writing.
 // As it was: (i) the clause OfSegment names each of these.
 pub fn segment(
-    t: Table,
+    t: &Table,
     is_sound: bool,
     is_summed: bool,
     m: &mut [u64; rules::SUMMARY],
@@ -183,15 +183,14 @@ pub fn segment(
     association: u16,
     s: &[u8],
 ) -> Received
-    requires { (is_sound ≡ sound t) × (is_summed ≡ summary_sound m.old t.places) }
-    ensures { OfSegment t m.old store.old report.old association s.now result m.new store.new report.new }
+    requires { (is_sound ≡ sound t.now) × (is_summed ≡ summary_sound m.old t.now.places) }
+    ensures { OfSegment t.now m.old store.old report.old association s.now result m.new store.new report.new }
 {
-    let mut next = t;
     let q = receive_seek::seek(t, association, s);
     let at = q.search.at;
-    let held = next.places[at];
+    let held = t.places[at];
     let v = judge(
-        &t,
+        t,
         is_sound,
         store.len(),
         report.len(),
@@ -206,6 +205,7 @@ pub fn segment(
     tally(m, counted, association, n, v);
     let w = settle(counted, held, v);
     receive_perform::perform(w, at, q.key, store, report, octets);
+    let mut next = *t;
     next.places[at] = w.put;
     received(next, w)
 }

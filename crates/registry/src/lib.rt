@@ -11,8 +11,8 @@ use rules::{Context, Entry};
 
 // The kind of a context: 1 of 1998, 2 of 2000, 0 where it is not registered.
 // As it was: (i) 0 stands for none: kind_of of rules answers it, and an entry's kind is an octet.
-pub fn kind_of(registry: [Entry; 8], context: Context) -> u8
-    ensures { result ≡ kind_of registry context.0 }
+pub fn kind_of(registry: &[Entry; 8], context: Context) -> u8
+    ensures { result ≡ kind_of registry.now context.0 }
 {
     registry
         .iter()
@@ -43,18 +43,18 @@ pub fn is_entry(e: Entry) -> bool
 }
 
 // Whether no context is listed twice.
-pub fn all_apart(registry: [Entry; 8]) -> bool
-    ensures { result ≡ every_two entries_apart registry }
+pub fn all_apart(registry: &[Entry; 8]) -> bool
+    ensures { result ≡ every_two entries_apart registry.now }
 {
     every_two(
-        &registry,
+        registry,
         |d, e| is_unused(*d) | is_unused(*e) | (d.context != e.context),
     )
 }
 
 // Whether every entry is unused or in range. With no way out of the loop it takes a few instructions for each.
-fn all_usable(registry: [Entry; 8]) -> bool
-    ensures { result ≡ every is_usable registry }
+fn all_usable(registry: &[Entry; 8]) -> bool
+    ensures { result ≡ every is_usable registry.now }
 {
     registry
         .iter()
@@ -62,18 +62,18 @@ fn all_usable(registry: [Entry; 8]) -> bool
 }
 
 // Whether no context but 0 stands twice.
-fn contexts_differ(registry: [Entry; 8]) -> bool
-    ensures { result ≡ every_two contexts_apart registry }
+fn contexts_differ(registry: &[Entry; 8]) -> bool
+    ensures { result ≡ every_two contexts_apart registry.now }
 {
     every_two(
-        &registry,
+        registry,
         |d, e| (d.context.0 == 0) | (d.context != e.context),
     )
 }
 
 // Whether the registry is sound. Where every entry is usable, those with context 0 are the unused ones.
-pub fn is_sound(registry: [Entry; 8]) -> bool
-    ensures { result ≡ registry_sound registry }
+pub fn is_sound(registry: &[Entry; 8]) -> bool
+    ensures { result ≡ registry_sound registry.now }
 {
     all_usable(registry) & contexts_differ(registry)
 }

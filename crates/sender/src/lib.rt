@@ -120,11 +120,10 @@ fn segment(
 ) -> Result<Sent, Refusal>
     ensures { OfSending t.now q origin.now destination.now whole.now area.old (told result) area.new }
 {
-    let idle = sound::look_idle(*t);
-    let sound = sound::is_sound(*t, idle);
-    let registry = t.registry;
+    let idle = sound::look_idle(t);
+    let sound = sound::is_sound(t, idle);
     let context = q.context;
-    let kind = registry::kind_of(registry, context);
+    let kind = registry::kind_of(&t.registry, context);
     judge(sound, kind, q, origin.len(), destination.len(), whole.len())?;
     let h = send_cut::header_length(kind, context, origin.len(), destination.len());
     let p = send_cut::cut(h, q, whole.len())?;

@@ -20,7 +20,7 @@ fn are_apart(p: &Place, q: &Place) -> bool
     ensures { result ≡ places_apart p.now q.now }
 {
     let both = (p.mark == 1) & (q.mark == 1);
-    !(both && table::same_key(p.key, q.key))
+    !(both && table::same_key(&p.key, &q.key))
 }
 
 // Whether no two numbers are the same.
@@ -31,10 +31,10 @@ fn all_differ(digests: &[u64]) -> bool
 }
 
 // Whether the open places are sound, and no two of them share a key. Where their digests differ their keys do, and no key need be looked at.
-fn open_sound(t: Table) -> bool
-    ensures { result ≡ open_part t }
+fn open_sound(t: &Table) -> bool
+    ensures { result ≡ open_part t.now }
 {
-    let seen = sound_open::look_over(&t.places, t.registry, t.timer, t.clock);
+    let seen = sound_open::look_over(&t.places, &t.registry, t.timer, t.clock);
     if all_differ(seen.digests.as_slice()) {
         seen.sound
     } else {
@@ -50,21 +50,21 @@ pub struct Idle {
 }
 
 // By a call of its own the places that are not open are read where they are: together with the open ones they would be copied.
-pub fn look_idle(t: Table) -> Idle
-    ensures { (result.sound ≡ every sound_if_idle t.places) × (result.all ≡ every is_shut t.places) }
+pub fn look_idle(t: &Table) -> Idle
+    ensures { (result.sound ≡ every sound_if_idle t.now.places) × (result.all ≡ every is_shut t.now.places) }
 {
-    let sound = sound_free::idle_sound(t.places);
-    let all = sound_free::none_open(t.places);
+    let sound = sound_free::idle_sound(&t.places);
+    let all = sound_free::none_open(&t.places);
     Idle { sound, all }
 }
 
 // Whether a table is sound, by what was seen of the places that are not open.
-pub fn is_sound(t: Table, idle: Idle) -> bool
-    requires { (idle.sound ≡ every sound_if_idle t.places) × (idle.all ≡ every is_shut t.places) }
-    ensures { result ≡ sound t }
+pub fn is_sound(t: &Table, idle: Idle) -> bool
+    requires { (idle.sound ≡ every sound_if_idle t.now.places) × (idle.all ≡ every is_shut t.now.places) }
+    ensures { result ≡ sound t.now }
 {
     let timed = (1 <= t.timer) & (t.timer <= 1000000);
-    let listed = registry::is_sound(t.registry);
+    let listed = registry::is_sound(&t.registry);
     let rest = timed & listed & idle.sound;
     if idle.all { rest } else { rest & open_sound(t) }
 }
@@ -83,8 +83,8 @@ fn names_of(places: &[Place; 16]) -> ArrayVec<u16, 16>
 }
 
 // Whether a summary is sound beside a table.
-pub fn is_summed(t: Table, m: &[u64; rules::SUMMARY]) -> bool
-    ensures { result ≡ summary_sound m.now t.places }
+pub fn is_summed(t: &Table, m: &[u64; rules::SUMMARY]) -> bool
+    ensures { result ≡ summary_sound m.now t.now.places }
 {
     let names = names_of(&t.places);
     sound_rows::is_sound(m, names.as_slice())
@@ -98,8 +98,8 @@ pub struct Soundness {
 }
 
 // Both in one call, for which the table is copied once more.
-pub fn are_sound(t: Table, m: &[u64; rules::SUMMARY]) -> Soundness
-    ensures { (result.table ≡ sound t) × (result.summary ≡ summary_sound m.now t.places) }
+pub fn are_sound(t: &Table, m: &[u64; rules::SUMMARY]) -> Soundness
+    ensures { (result.table ≡ sound t.now) × (result.summary ≡ summary_sound m.now t.now.places) }
 {
     let idle = look_idle(t);
     let table = is_sound(t, idle);

@@ -66,15 +66,15 @@ fn idle_weights(places: &[Place]) -> u64
 
 // Whether each place that is not open is all zero. By eight: a loop over sixteen is not unrolled.
 #[tactic(auto, using(crate::proofs::Weights::in_halves))]
-pub fn idle_sound(places: [Place; 16]) -> bool
-    ensures { result ≡ every sound_if_idle places }
+pub fn idle_sound(places: &[Place; 16]) -> bool
+    ensures { result ≡ every sound_if_idle places.now }
 {
-    (idle_weights(&places[..8]) | idle_weights(&places[8..])) == 0
+    (idle_weights(places[..8]) | idle_weights(places[8..])) == 0
 }
 
 // Whether no place is open.
-pub fn none_open(places: [Place; 16]) -> bool
-    ensures { result ≡ every is_shut places }
+pub fn none_open(places: &[Place; 16]) -> bool
+    ensures { result ≡ every is_shut places.now }
 {
     places.iter().all(|p| p.mark != 1)
 }

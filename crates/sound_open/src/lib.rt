@@ -57,8 +57,8 @@ fn address_sound(kind: u8, a: &Address) -> bool
 }
 
 // Whether an open place is sound. Addresses are looked at only where the numbers are sound: so fewer values are kept at a time.
-fn open_sound(registry: [Entry; 8], timer: u32, clock: u32, p: &Place) -> bool
-    ensures { result ≡ open_sound registry timer clock p.now }
+fn open_sound(registry: &[Entry; 8], timer: u32, clock: u32, p: &Place) -> bool
+    ensures { result ≡ open_sound registry.now timer clock p.now }
 {
     let kind = registry::kind_of(registry, p.key.context);
     let sum = u16::from(p.segments) + u16::from(p.remaining.0);
@@ -107,8 +107,8 @@ fn digest_of(p: &Place) -> u64
 }
 
 // The open places in one go.
-pub fn look_over(places: &[Place; 16], registry: [Entry; 8], timer: u32, clock: u32) -> Seen
-    ensures sound_value { result.sound ≡ every (sound_if_open registry timer clock) places.now }
+pub fn look_over(places: &[Place; 16], registry: &[Entry; 8], timer: u32, clock: u32) -> Seen
+    ensures sound_value { result.sound ≡ every (sound_if_open registry.now timer clock) places.now }
     ensures digests { result.digests.items ≡ map digest (those is_open places.now) }
 {
     let mut digests = ArrayVec::new();

@@ -17,8 +17,8 @@ pub fn elapsed(new: u32, old: u32) -> u32
 
 // Whether two keys are the same: nothing else compares keys.
 #[tactic(auto, using(crate::proofs::Seeking::key_by_fields))]
-pub fn same_key(a: Key, b: Key) -> bool
-    ensures { result ≡ same_key a b }
+pub fn same_key(a: &Key, b: &Key) -> bool
+    ensures { result ≡ same_key a.now b.now }
 {
     a == b
 }
@@ -60,10 +60,10 @@ fn place_of(places: &[Place; 16], k: &Key) -> Option<usize>
 }
 
 // The place that is open with a key, or else the lowest free one.
-pub fn search_for(places: [Place; 16], k: Key) -> Search
-    ensures { Points (place_of k places) (lowest_free places) result }
+pub fn search_for(places: &[Place; 16], k: &Key) -> Search
+    ensures { Points (place_of k.now places.now) (lowest_free places.now) result }
 {
-    match place_of(&places, &k) {
+    match place_of(places, k) {
         Some(at) => Search {
             at,
             found: true,
@@ -81,8 +81,8 @@ pub fn search_for(places: [Place; 16], k: Key) -> Search
 }
 
 // The lowest free place.
-pub fn lowest_free(places: [Place; 16]) -> Option<usize>
-    ensures { result ≡ lowest_free places }
+pub fn lowest_free(places: &[Place; 16]) -> Option<usize>
+    ensures { result ≡ lowest_free places.now }
 {
     places.iter().position(|p| p.mark == 0)
 }

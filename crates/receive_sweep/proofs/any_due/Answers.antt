@@ -8,4 +8,4 @@ use Rattle.receive_sweep.proofs.any_due.Goals as goal
 pub returns : goal.returns
 returns c =
     let a = c.args in
-    any_from_yields_List (test_of a.which) _ _ _ c.any.ensures.ran (YieldsList-from_slice a.t.places cc) (λ x b q k. search rules) ∙ any_placed (test_of a.which) a.t.places 0
+    any_from_yields_List (test_of a.which) _ _ _ c.any.ensures.ran (YieldsList-from_slice a.t.now.places cc) (λ x b q k. search rules) ∙ any_placed (test_of a.which) a.t.now.places 0

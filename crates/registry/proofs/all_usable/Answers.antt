@@ -9,5 +9,5 @@ use Rattle.registry.proofs.all_usable.Goals as goal
 pub returns : goal.returns
 returns c =
     let a = c.args in
-    fold_from_yields_List _ (λ (b : Bool) (e : Entry). b && is_usable e) true c.fold.result c.fold.ensures.ran (YieldsList-from_slice a.registry cc) (λ r x b q k. search (rules, tests))
-    ∙ fold-every is_usable true a.registry
+    fold_from_yields_List _ (λ (b : Bool) (e : Entry). b && is_usable e) true c.fold.result c.fold.ensures.ran (YieldsList-from_slice a.registry.now cc) (λ r x b q k. search (rules, tests))
+    ∙ fold-every is_usable true a.registry.now

@@ -6,10 +6,10 @@ use Rattle.table.proofs.search_for.Goals as goal
 pub returns-in-Some : goal.returns-in-Some
 returns-in-Some c =
     let found = sym c.place_of.ensures ∙ c.in-Some.is in
-    rw found (points-found _ c.in-Some.at (omega (arith, found-within (holds c.args.k) c.args.places 0 c.in-Some.at found)))
+    rw found (points-found _ c.in-Some.at (omega (arith, found-within (holds c.args.k.now) c.args.places.now 0 c.in-Some.at found)))
 
 pub returns-in-None : goal.returns-in-None
 returns-in-None c =
     let found = sym c.place_of.ensures ∙ c.in-None.is in
     rw (found, c.unwrap_or.ensures, c.is_some.ensures, c.lowest_free-vacant.ensures)
-    (points-none _ (λ k e. omega (arith, found-within is_free c.args.places 0 k e)))
+    (points-none _ (λ k e. omega (arith, found-within is_free c.args.places.now 0 k e)))
