@@ -69,7 +69,7 @@ fn idle_weights(places: &[Place]) -> u64
 pub fn idle_sound(places: &[Place; 16]) -> bool
     ensures { result ≡ every sound_if_idle places.now }
 {
-    (idle_weights(places[..8]) | idle_weights(places[8..])) == 0
+    (idle_weights(&places[..8]) | idle_weights(&places[8..])) == 0
 }
 
 // Whether no place is open.

@@ -246,6 +246,7 @@ fn run(rt: &impl Print) -> io::Result<()> {
     ten(rt, 10)
 }
 
-fn main(rt: HostRuntime) -> io::Result<()> {
-    run(&rt)
+// What cannot be printed is missed by the comparison with the file stdout.
+fn main(rt: HostRuntime) {
+    let _ = run(&rt);
 }
