@@ -1,8 +1,9 @@
 // An arrival: the clock's work first, and then the segment's. All is judged before anything is written: what the clock's work would leave stands aside until the segment is judged with it.
 #![tactic(auto)]
 
-ghost use Rattle.std.specs.Prelude.{◌+◌, ◌≤◌, ◌≡◌, false, []};
+ghost use Rattle.std.specs.Prelude.{◌+◌, ◌≤◌, ◌≡◌, false, [], length};
 ghost use Rattle.refusals.specs.Numbers.{number_of, number_if};
+ghost use Rattle.rules.specs.Numbers.{place_count};
 ghost use Rattle.rules.specs.Refusals.{first, unplaced};
 ghost use Rattle.rules.specs.Places.{first_from, is_at};
 ghost use Rattle.rules.specs.Receiving.{unreceived};
@@ -62,6 +63,7 @@ fn pass(
     s: &[u8],
 ) -> Received
     requires allowed { Allowed t.now m.old store.old report.old time }
+    requires size { length t.now.places ≡ place_count }
     requires places_value { is_at (first_from (test_of (Test.Aged time t.now.timer)) t.now.places 0) ≡ false }
     ensures { OfArrival t.now m.old store.old report.old time association s.now result m.new store.new report.new }
 {
@@ -85,17 +87,18 @@ fn lose(
     association: u16,
     s: &[u8],
 ) -> Received
-    requires { Allowed t.now m.old store.old report.old time }
+    requires allowed { Allowed t.now m.old store.old report.old time }
+    requires size { length t.now.places ≡ place_count }
     ensures { OfArrival t.now m.old store.old report.old time association s.now result m.new store.new report.new }
 {
     let timer = t.timer;
     let which = Test::Aged { time, timer };
     let mut trial = *m;
-    if !receive_clock::billed(t, which, &mut trial) {
+    if !receive_clock::billed(&t.places, which, &mut trial) {
         return refused(t, Refusal::TotalLarge);
     }
     let mut told = [0u8; rules::REPORT];
-    let w = receive_sweep::swept(t, &mut told, time, which);
+    let w = receive_sweep::swept(*t, &mut told, time, which);
     let past = usize::from(w.records) * rules::RECORD;
     let behind = &mut report[past..];
     let own = receive_segment::segment(&w.table, true, true, &mut trial, store, behind, association, s);

@@ -54,11 +54,11 @@ fn bill_due(m: &mut [u64; rules::SUMMARY], which: Test, p: &Place) -> bool
 }
 
 // Bills all that a sweep loses, each on top of those before it, so that several of one association are judged by their sum.
-pub fn billed(t: &Table, which: Test, m: &mut [u64; rules::SUMMARY]) -> bool
-    ensures value { result ≡ fits m.old (billed m.old (losses which t.now.places)) }
-    ensures m_after { result ≡ true → m.new ≡ billed m.old (losses which t.now.places) }
+pub fn billed(places: &[Place; 16], which: Test, m: &mut [u64; rules::SUMMARY]) -> bool
+    ensures value { result ≡ fits m.old (billed m.old (losses which places.now)) }
+    ensures m_after { result ≡ true → m.new ≡ billed m.old (losses which places.now) }
 {
-    for p in &t.places {
+    for p in places {
         if !bill_due(m, which, p) {
             return false;
         }
@@ -103,7 +103,7 @@ fn bill(
     }
     // A copy: a loss that does not fit may come after others that do.
     let mut trial = *m;
-    if !billed(t, which, &mut trial) {
+    if !billed(&t.places, which, &mut trial) {
         return Err(Refusal::TotalLarge);
     }
     *m = trial;
@@ -125,7 +125,7 @@ fn sweep(
     match bill(t, m, report, time, which) {
         Err(r) => refused(t, r),
         Ok(false) => passed(t, time),
-        Ok(true) => receive_sweep::swept(t, report, time, which),
+        Ok(true) => receive_sweep::swept(*t, report, time, which),
     }
 }
 

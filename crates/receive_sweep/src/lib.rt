@@ -65,12 +65,12 @@ fn put_loss(report: &mut [u8], n: u8, which: Test, p: &Place)
 }
 
 // Loses what is due of a table, in place order, and sets its clock. What is not due is not touched. All records have one length.
-pub fn swept(t: &Table, report: &mut [u8], time: u32, which: Test) -> Swept
-    ensures value { result ≡ (swept_by which time t.now report.old).answer }
-    ensures report_after { report.new ≡ (swept_by which time t.now report.old).report }
-    ensures records_le_place_count { (result.records ≤ place_count) × (length (records_octets (losses which t.now.places)) ≡ record_length * result.records) }
+pub fn swept(t: Table, report: &mut [u8], time: u32, which: Test) -> Swept
+    ensures value { result ≡ (swept_by which time t report.old).answer }
+    ensures report_after { report.new ≡ (swept_by which time t report.old).report }
+    ensures records_le_place_count { (result.records ≤ place_count) × (length (records_octets (losses which t.places)) ≡ record_length * result.records) }
 {
-    let mut next = *t;
+    let mut next = t;
     let mut n = 0;
     for p in &mut next.places {
         if is_due(which, p) {

@@ -21,8 +21,8 @@ returns-then-time-t c =
     ∙ own-time a.t a.m.now a.store.now a.report.now a.association a.s.now (allowed a.t a.m.now a.store.now a.report.now a.time a.association a.s.now c.is_sound-is_sound.ensures c.is_summed-is_summed.ensures c.elapsed-step.ensures c.in_default.ensures refl).reports)
     c.segment.ensures.answered c.segment.ensures.summed c.segment.ensures.stored c.segment.ensures.reported
 
-pub lose-requires : goal.lose-requires
-lose-requires c =
+pub lose-requires-clause-allowed : goal.lose-requires-clause-allowed
+lose-requires-clause-allowed c =
     let a = c.args in
     allowed a.t a.m.now a.store.now a.report.now a.time a.association a.s.now c.is_sound-is_sound.ensures c.is_summed-is_summed.ensures c.elapsed-step.ensures c.in_default.ensures refl
 

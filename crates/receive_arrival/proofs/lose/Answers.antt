@@ -9,21 +9,21 @@ use Rattle.receive_arrival.proofs.lose.Goals as goal
 pub returns-then-not-billed : goal.returns-then-not-billed
 returns-then-not-billed c =
     let a = c.args in
-    arrives a.t.now a.m.now a.store.now a.report.now a.time a.association a.s.now (unfit-is a.t.now a.m.now a.store.now a.report.now a.time a.association a.s.now c.requires (sym c.billed.ensures.value ∙ c.if-not-billed.true))
+    arrives a.t.now a.m.now a.store.now a.report.now a.time a.association a.s.now (unfit-is a.t.now a.m.now a.store.now a.report.now a.time a.association a.s.now c.requires.allowed (sym c.billed.ensures.value ∙ c.if-not-billed.true))
     c.refused.ensures refl refl refl
 
 pub segment-own-requires : goal.segment-own-requires
 segment-own-requires c =
     let a = c.args in
     let fit = c.if-not-billed.false in
-    (sym (sound-next a.t.now a.m.now a.store.now a.report.now a.time a.association a.s.now c.requires (sym c.billed.ensures.value ∙ fit) (c.billed.ensures.m_after fit) c.swept-w.ensures.value c.swept-w.ensures.report_after c.swept-w.ensures.records_le_place_count), sym (summed-next a.t.now a.m.now a.store.now a.report.now a.time a.association a.s.now c.requires (sym c.billed.ensures.value ∙ fit) (c.billed.ensures.m_after fit) c.swept-w.ensures.value c.swept-w.ensures.report_after c.swept-w.ensures.records_le_place_count))
+    (sym (sound-next a.t.now a.m.now a.store.now a.report.now a.time a.association a.s.now c.requires.allowed (sym c.billed.ensures.value ∙ fit) (c.billed.ensures.m_after fit) c.swept-w.ensures.value c.swept-w.ensures.report_after c.swept-w.ensures.records_le_place_count), sym (summed-next a.t.now a.m.now a.store.now a.report.now a.time a.association a.s.now c.requires.allowed (sym c.billed.ensures.value ∙ fit) (c.billed.ensures.m_after fit) c.swept-w.ensures.value c.swept-w.ensures.report_after c.swept-w.ensures.records_le_place_count))
 
 pub returns-then-own-eq22 : goal.returns-then-own-eq22
 returns-then-own-eq22 c =
     let a = c.args in
     let fit = c.if-not-billed.false in
-    let size : length a.t.now.places ≡ place_count = omega arith in
-    rw c.from-past.ensures (lost-22 a.t.now a.m.now a.store.now a.report.now a.time a.association a.s.now c.requires (sym c.billed.ensures.value ∙ fit) (c.billed.ensures.m_after fit) c.swept-w.ensures.value c.swept-w.ensures.report_after c.swept-w.ensures.records_le_place_count size (rw c.from-past.ensures at c.segment-own.ensures) c.if-own-eq22.true (c.refused-then-own-eq22.ensures ∙ rw c.if-own-eq22.true))
+    let size : length a.t.now.places ≡ place_count = c.requires.size in
+    rw c.from-past.ensures (lost-22 a.t.now a.m.now a.store.now a.report.now a.time a.association a.s.now c.requires.allowed (sym c.billed.ensures.value ∙ fit) (c.billed.ensures.m_after fit) c.swept-w.ensures.value c.swept-w.ensures.report_after c.swept-w.ensures.records_le_place_count size (rw c.from-past.ensures at c.segment-own.ensures) c.if-own-eq22.true (c.refused-then-own-eq22.ensures ∙ rw c.if-own-eq22.true))
 
 pub beside-requires : goal.beside-requires
 beside-requires c =
@@ -33,5 +33,5 @@ pub returns : goal.returns
 returns c =
     let a = c.args in
     let fit = c.if-not-billed.false in
-    let size : length a.t.now.places ≡ place_count = omega arith in
-    lost-both a.t.now a.m.now a.store.now a.report.now a.time a.association a.s.now c.requires (sym c.billed.ensures.value ∙ fit) (c.billed.ensures.m_after fit) c.swept-w.ensures.value c.swept-w.ensures.report_after c.swept-w.ensures.records_le_place_count size (rw c.from-past.ensures at c.segment-own.ensures) c.if-own-eq22.false c.beside.ensures (rw c.from-past.ensures at c.put.ensures)
+    let size : length a.t.now.places ≡ place_count = c.requires.size in
+    lost-both a.t.now a.m.now a.store.now a.report.now a.time a.association a.s.now c.requires.allowed (sym c.billed.ensures.value ∙ fit) (c.billed.ensures.m_after fit) c.swept-w.ensures.value c.swept-w.ensures.report_after c.swept-w.ensures.records_le_place_count size (rw c.from-past.ensures at c.segment-own.ensures) c.if-own-eq22.false c.beside.ensures (rw c.from-past.ensures at c.put.ensures)

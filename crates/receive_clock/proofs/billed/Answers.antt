@@ -5,7 +5,7 @@ use Rattle.receive_clock.proofs.Losing.{turn-fails, turn-fits, all_fit, all-bill
 use Rattle.receive_clock.proofs.billed.Goals as goal
 
 pub loop-p-init : goal.loop-p-init
-loop-p-init c = record { size = omega arith; inside = omega arith; long = c.told-m; sums = refl; fit = refl }
+loop-p-init c = record { size = c.told-places; inside = omega arith; long = c.told-m; sums = refl; fit = refl }
 
 pub returns-then-not-bill_due : goal.returns-then-not-bill_due
 returns-then-not-bill_due c =

@@ -18,4 +18,4 @@ pub returns : goal.returns
 unfolding sweep losses
 returns c =
     let l = c.loop-p in
-    record { value = all-answered c.args.t.now l.invariant c.loop-p-test.false _; report_after = all-reported l.invariant c.loop-p-test.false; records_le_place_count = (omega arith, all-sized l.invariant c.loop-p-test.false) }
+    record { value = all-answered c.args.t l.invariant c.loop-p-test.false _; report_after = all-reported l.invariant c.loop-p-test.false; records_le_place_count = (omega arith, all-sized l.invariant c.loop-p-test.false) }
