@@ -102,7 +102,6 @@ pub fn loopback(
 ) -> Looped
     ensures { OfLoopback (asked t q association origin.now destination.now whole.now) m.old store.old (lending report.old area.old) result m.new store.new (lending report.new area.new) }
 {
-    summary::numbers(m);
     if let Err(r) = judge(&t, m, association, store.len(), report.len(), area.len()) {
         return refused(t, u8::from(r));
     }

@@ -5,13 +5,6 @@ ghost use Rattle.std.specs.Prelude.{if◌then◌else◌, ◌≡◌, true, ◌&&�
 ghost use Rattle.rules.specs.Summary.{number_at, row_of, unused_row, row_for, tally, seat, total_fits, fits, empty_summary};
 ghost use Rattle.summary.specs.Losses.{loss_in};
 
-// How many numbers there are.
-pub fn numbers(m: &[u64; rules::SUMMARY]) -> usize
-    ensures { (result ≡ 512) × (length m.now ≡ 512) }
-{
-    m.len()
-}
-
 // The row of an association. The mark is asked second: few rows have the name.
 pub fn row_of(m: &[u64; rules::SUMMARY], association: u16) -> Option<usize>
     ensures value { result ≡ row_of m.now association }

@@ -11,7 +11,7 @@ pub returns-in-Err : goal.returns-in-Err
 returns-in-Err c =
     let a = c.args in
     let x = asked a.t a.q a.association a.origin.now a.destination.now a.whole.now in
-    kept-unmoved x a.m.now a.store.now (lending a.report.now a.area.now) c.numbers.ensures.1 (owned a.t c.well_formed.0) (omega arith) (omega arith) _ _ _ (rw c.from.ensures at c.refused.ensures)
+    kept-unmoved x a.m.now a.store.now (lending a.report.now a.area.now) c.told-m (owned a.t c.well_formed.0) (omega arith) (omega arith) _ _ _ (rw c.from.ensures at c.refused.ensures)
     (looping-unfit x a.m.now a.store.now (lending a.report.now a.area.now) _ c.in-Err.ensures (number-some _)) refl
 
 pub returns-then-s-ne0 : goal.returns-then-s-ne0
@@ -19,7 +19,7 @@ returns-then-s-ne0 c =
     let a = c.args in
     let x = asked a.t a.q a.association a.origin.now a.destination.now a.whole.now in
     let e = refusal_is x a.m.now a.store.now (lending a.report.now a.area.now) _ _ _ c.for_segment.ensures c.sending-s.ensures in
-    kept-unmoved x a.m.now a.store.now (lending a.report.now a.area.now) c.numbers.ensures.1 (owned a.t c.well_formed.0) (omega arith) (omega arith) _ _ _ c.refused-then-s-ne0.ensures
+    kept-unmoved x a.m.now a.store.now (lending a.report.now a.area.now) c.told-m (owned a.t c.well_formed.0) (omega arith) (omega arith) _ _ _ c.refused-then-s-ne0.ensures
     (looping-unsent x a.m.now a.store.now (lending a.report.now a.area.now) _ (sym c.in_default.ensures) e c.if-s-ne0.true)
     (ap (lending a.report.now) (area-is x a.m.now a.store.now (lending a.report.now a.area.now) _ _ _ c.for_segment.ensures c.sending-s.ensures
     ∙ area-unsent x a.m.now a.store.now (lending a.report.now a.area.now) _ e c.if-s-ne0.true))
@@ -37,4 +37,4 @@ returns c =
     let a = c.args in
     let x = asked a.t a.q a.association a.origin.now a.destination.now a.whole.now in
     kept-done x a.m.now a.store.now (lending a.report.now a.area.now) _ _ _ c.for_segment.ensures c.sending-s.ensures
-    c.numbers.ensures.1 (owned a.t c.well_formed.0) (omega arith) (omega arith) (sym c.in_default.ensures) c.if-s-ne0.false _ _ _ _ c.receive-first.ensures _ _ _ _ c.others.ensures
+    c.told-m (owned a.t c.well_formed.0) (omega arith) (omega arith) (sym c.in_default.ensures) c.if-s-ne0.false _ _ _ _ c.receive-first.ensures _ _ _ _ c.others.ensures
