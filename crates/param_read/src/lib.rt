@@ -1,10 +1,10 @@
 // One parameter read, from left to right.
 #![tactic(auto)]
 
-ghost use Rattle.std.specs.Prelude.{◌≡◌, ◌≤◌, length, drop};
-ghost use Rattle.rules.specs.Numbers.{parameter_most};
+ghost use Rattle.std.specs.Prelude.{◌≡◌, drop};
 ghost use Rattle.param_read.specs.Reading.{addresses_field, reading};
 
+use param_fields::Parameter;
 use refusals::Refusal;
 use rules::{Entry, Fault, Fields, Heading, Span};
 
@@ -16,11 +16,10 @@ pub struct Addresses {
 }
 
 // Both addresses, where the kind has them, and where the information starts.
-// As it was: (i) the kind is a number: has_addresses of rules asks it.
+// As it was: the kind is a number: has_addresses of rules asks it.
 #[tactic(auto, using(crate::proofs::Chain::steps))]
-fn addresses_field(s: &[u8], kind: u8, at: usize) -> Result<Addresses, Fault>
-    requires { length s.now ≤ parameter_most }
-    ensures { result ≡ addresses_field s.now kind at }
+fn addresses_field(p: &Parameter, kind: u8, at: usize) -> Result<Addresses, Fault>
+    ensures { result ≡ addresses_field p.now.octets.now kind at }
 {
     if kind != 2 {
         let none = Span { at: 0, length: 0 };
@@ -30,8 +29,8 @@ fn addresses_field(s: &[u8], kind: u8, at: usize) -> Result<Addresses, Fault>
             information: at,
         });
     }
-    let (origin, end) = param_fields::address_field(s, at)?;
-    let (destination, information) = param_fields::address_field(s, end)?;
+    let (origin, end) = p.address_field(at)?;
+    let (destination, information) = p.address_field(end)?;
     Ok(Addresses {
         origin,
         destination,
@@ -50,10 +49,11 @@ pub fn read(registry: &[Entry; 8], s: &[u8]) -> Result<Fields, Fault>
             position: rules::NOWHERE,
         });
     }
-    let (context, kind, at) = param_fields::context_field(registry, s)?;
-    let (x, at) = param_fields::last_field(s, at)?;
-    let (q, at) = param_fields::sequence_field(s, at)?;
-    let a = addresses_field(s, kind, at)?;
+    let p = Parameter { octets: s };
+    let (context, kind, at) = p.context_field(registry)?;
+    let (x, at) = p.last_field(at)?;
+    let (q, at) = p.sequence_field(at)?;
+    let a = addresses_field(&p, kind, at)?;
     let instruction = x % 4;
     let heading = Heading {
         context,
