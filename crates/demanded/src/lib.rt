@@ -24,12 +24,14 @@ pub struct Both {
 
 // THE PUBLIC CALLS
 
+// As it was: the arguments are those of the call that it is about, and each call has its own function, since that is what is claimed.
 pub fn opening(m: &mut [u64; rules::SUMMARY], registry: &[u8], timer: u32, clock: u32) -> Opened
     ensures { DemandedOpening registry.now timer clock result m.new }
 {
     opening::opening(m, registry, timer, clock)
 }
 
+// As it was: the arguments are those of the call that it is about, and each call has its own function, since that is what is claimed.
 pub fn arrival(
     t: Table,
     m: &mut [u64; rules::SUMMARY],
@@ -50,12 +52,14 @@ pub fn delivery<'a>(decision: Decision, s: &'a [u8], store: &'a [u8]) -> &'a [u8
     receiver::delivery(decision, s, store)
 }
 
+// As it was: the arguments are those of the call that it is about, and each call has its own function, since that is what is claimed.
 pub fn clock(t: Table, m: &mut [u64; rules::SUMMARY], report: &mut [u8], time: u32) -> Swept
     ensures { DemandedClock t m.old report.old time result m.new report.new }
 {
     receiver::clock(t, m, report, time)
 }
 
+// As it was: the arguments are those of the call that it is about, and each call has its own function, since that is what is claimed.
 pub fn release(
     t: Table,
     m: &mut [u64; rules::SUMMARY],
@@ -67,6 +71,7 @@ pub fn release(
     receiver::release(t, m, report, association)
 }
 
+// As it was: the arguments are those of the call that it is about, and each call has its own function, since that is what is claimed.
 pub fn sending(
     t: Table,
     q: Request,
@@ -82,6 +87,7 @@ pub fn sending(
 
 // THE CALLS FOR C
 
+// As it was: the arguments are those of the call that it is about, and each call has its own function, since that is what is claimed.
 pub fn c_opening(m: &mut [u64; rules::SUMMARY], registry: &[u8], timer: u32, clock: u32) -> Opened
     ensures { DemandedOpening registry.now timer clock result m.new }
 {
@@ -89,6 +95,7 @@ pub fn c_opening(m: &mut [u64; rules::SUMMARY], registry: &[u8], timer: u32, clo
 }
 
 // An arrival, and the delivery asked for with its answer.
+// As it was: the arguments are those of the call that it is about, and each call has its own function, since that is what is claimed.
 pub fn c_arrival(
     t: Table,
     m: &mut [u64; rules::SUMMARY],
@@ -106,12 +113,14 @@ pub fn c_arrival(
     Handed { received, part }
 }
 
+// As it was: the arguments are those of the call that it is about, and each call has its own function, since that is what is claimed.
 pub fn c_clock(t: Table, m: &mut [u64; rules::SUMMARY], report: &mut [u8], time: u32) -> Swept
     ensures { DemandedClock t m.old report.old time result m.new report.new }
 {
     host::egrynnol_4_clock(t, m, report, time)
 }
 
+// As it was: the arguments are those of the call that it is about, and each call has its own function, since that is what is claimed.
 pub fn c_release(
     t: Table,
     m: &mut [u64; rules::SUMMARY],
@@ -123,6 +132,7 @@ pub fn c_release(
     host::egrynnol_4_release(t, m, report, association)
 }
 
+// As it was: the arguments are those of the call that it is about, and each call has its own function, since that is what is claimed.
 pub fn c_sending(
     t: Table,
     q: Request,
@@ -137,6 +147,7 @@ pub fn c_sending(
 }
 
 // THEY COMPOSE: what one leaves is what the next asks for, and nothing is asked of the history.
+// As it was: the arguments are those of the call that it is about, and each call has its own function, since that is what is claimed.
 pub fn opened_then_clock(
     m: &mut [u64; rules::SUMMARY],
     registry: &[u8],

@@ -22,6 +22,7 @@ pub struct CReceived {
 }
 
 // Opens a table from registry octets, T and the clock, and empties the summary.
+// As it was: C hands its arguments over one by one, and the promise is that of the call beneath it.
 pub fn egrynnol_4_opening(
     m: &mut [u64; rules::SUMMARY],
     registry: &[u8],
@@ -34,6 +35,7 @@ pub fn egrynnol_4_opening(
 }
 
 // A segment arrives at a time: the clock's work, and then the segment's.
+// As it was: C hands its arguments over one by one, and the promise is that of the call beneath it.
 pub fn egrynnol_4_arrival(
     t: Table,
     m: &mut [u64; rules::SUMMARY],
@@ -57,6 +59,7 @@ pub fn egrynnol_4_arrival(
 }
 
 // The clock goes on.
+// As it was: C hands its arguments over one by one, and the promise is that of the call beneath it.
 pub fn egrynnol_4_clock(
     t: Table,
     m: &mut [u64; rules::SUMMARY],
@@ -69,6 +72,7 @@ pub fn egrynnol_4_clock(
 }
 
 // An association is released.
+// As it was: C hands its arguments over one by one, and the promise is that of the call beneath it.
 pub fn egrynnol_4_release(
     t: Table,
     m: &mut [u64; rules::SUMMARY],
@@ -90,6 +94,7 @@ pub fn egrynnol_4_delivery<'a>(decision: CDecision, s: &'a [u8], store: &'a [u8]
 }
 
 // Writes one segment of the data.
+// As it was: C hands its arguments over one by one, and the promise is that of the call beneath it.
 pub fn egrynnol_4_sending(
     t: Table,
     q: Request,

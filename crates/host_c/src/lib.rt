@@ -9,6 +9,7 @@ use host_numbers::{CDecision, CPart};
 use rules::{Opened, Request, Sent, Swept, Table};
 
 // Opens a table from registry octets, T and the clock, and empties the summary.
+// As it was: the call of host once more, with its clause: a crate is a library or a static library, and C hands arguments over one by one.
 #[unsafe(no_mangle)]
 pub extern "C" fn egrynnol_4_opening(
     m: &mut [u64; rules::SUMMARY],
@@ -22,6 +23,7 @@ pub extern "C" fn egrynnol_4_opening(
 }
 
 // A segment arrives at a time: the clock's work, and then the segment's.
+// As it was: the call of host once more, with its clause: a crate is a library or a static library, and C hands arguments over one by one.
 #[unsafe(no_mangle)]
 pub extern "C" fn egrynnol_4_arrival(
     t: Table,
@@ -38,6 +40,7 @@ pub extern "C" fn egrynnol_4_arrival(
 }
 
 // The clock goes on.
+// As it was: the call of host once more, with its clause: a crate is a library or a static library, and C hands arguments over one by one.
 #[unsafe(no_mangle)]
 pub extern "C" fn egrynnol_4_clock(
     t: Table,
@@ -51,6 +54,7 @@ pub extern "C" fn egrynnol_4_clock(
 }
 
 // An association is released.
+// As it was: the call of host once more, with its clause: a crate is a library or a static library, and C hands arguments over one by one.
 #[unsafe(no_mangle)]
 pub extern "C" fn egrynnol_4_release(
     t: Table,
@@ -64,6 +68,7 @@ pub extern "C" fn egrynnol_4_release(
 }
 
 // Where the octets are that a segment delivered.
+// As it was: the call of host once more, with its clause: a crate is a library or a static library, and C hands arguments over one by one.
 #[unsafe(no_mangle)]
 pub extern "C" fn egrynnol_4_delivery<'a>(
     decision: CDecision,
@@ -76,6 +81,7 @@ pub extern "C" fn egrynnol_4_delivery<'a>(
 }
 
 // Writes one segment of the data.
+// As it was: the call of host once more, with its clause: a crate is a library or a static library, and C hands arguments over one by one.
 #[unsafe(no_mangle)]
 pub extern "C" fn egrynnol_4_sending(
     t: Table,

@@ -32,6 +32,7 @@ pub struct CPart {
 impl From<Decision> for CDecision {
     ghost from_gives = { λ d o. o ≡ c_decision_of d };
 
+    // As it was: C has numbers for the kinds of a decision (c_decision_of).
     fn from(decision: Decision) -> CDecision {
         match decision {
             Decision::Refused => numbers(0, 0, 0, 0, 0),
@@ -58,6 +59,7 @@ fn numbers(kind: u8, place: usize, start: usize, length: usize, cause: u8) -> CD
 }
 
 // The place that a number of C names; 16 names none.
+// As it was: C has 16 for no place (found_at).
 fn found_of(place: usize) -> Option<usize>
     ensures { result ≡ found_at place }
 {

@@ -69,6 +69,7 @@ pub fn receive(
 }
 
 // Segment k is cut, and received.
+// As it was: table, summary and areas go one by one, as the public calls take them from C.
 fn one(
     c: &Course,
     k: u8,
@@ -86,6 +87,7 @@ fn one(
 }
 
 // The segments after the first.
+// As it was: as one.
 pub fn others(
     c: &Course,
     count: u8,

@@ -5,6 +5,7 @@ use rules::{Context, Reference, Request, Table};
 use streams::Told;
 
 // Context 3 of 1998; T 100.
+// As it was: a table of this program's own; vectors opens another.
 fn fresh(m: &mut [u64; rules::SUMMARY]) -> Table {
     opening::opening(m, b"\x01\x00\x03", 100, 0).table
 }
@@ -26,12 +27,14 @@ fn print(rt: &HostRuntime, octets: &[u8]) -> Result<(), Told> {
     streams::write(rt, &mut rt.stdout(), b"looped: cannot write", octets)
 }
 
+// As it was: what is printed is the number.
 fn refused(rt: &HostRuntime, number: u8) -> Result<(), Told> {
     print(rt, b"refused ")?;
     print(rt, itoa::Buffer::new().format(number).as_bytes())?;
     print(rt, b"\n")
 }
 
+// As it was: the answer has a number (Looped).
 fn looped(rt: &HostRuntime, data: &[u8]) -> Result<(), Told> {
     let mut summary = [0; rules::SUMMARY];
     let table = fresh(&mut summary);

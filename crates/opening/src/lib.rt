@@ -13,6 +13,7 @@ use refusals::Refusal;
 use rules::{Context, Entry, Opened, Table};
 
 // An entry with nothing in it: all zero.
+// As it was: all zero is what the rule says (no_entry), field for field; a Default would say it nowhere.
 fn no_entry() -> Entry
     ensures { result ≡ no_entry }
 {
@@ -23,6 +24,7 @@ fn no_entry() -> Entry
 }
 
 // The entry whose record, kind and context, begins at an index.
+// As it was: the clause entries_of (drop at ..) names both.
 fn entry_at(octets: &[u8], at: usize) -> Entry
     requires { at + 3 ≤ length octets.now }
     ensures { entries_of (drop at octets.now) ≡ result ∷ entries_of (drop (at + 3) octets.now) }
@@ -66,7 +68,7 @@ fn empty_table(entries: [Entry; 8], timer: u32, clock: u32) -> Table
 }
 
 // The unopened table, all zero, and why.
-// As it was: (iv) a refused for each answer: the answers of the calls differ in all but the number.
+// As it was: a refused for each answer: the answers of the calls differ in all but the number.
 fn refused(refusal: Refusal) -> Opened
     ensures { result ≡ unopened_by (number_of refusal) }
 {
@@ -100,6 +102,7 @@ fn listed(registry: &[u8], timer: u32) -> Result<[Entry; 8], Refusal>
 }
 
 // Opens a table. Refused or not, the summary has no used row afterwards.
+// As it was: the public call: the arguments are the paper's and C's, and so is the promise (OfOpening).
 pub fn opening(m: &mut [u64; rules::SUMMARY], registry: &[u8], timer: u32, clock: u32) -> Opened
     ensures { OfOpening registry.now timer clock result m.new }
 {

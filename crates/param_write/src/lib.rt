@@ -71,7 +71,7 @@ impl Writer<'_> {
     }
 
     // Both addresses, where the kind has them.
-    // As it was: (i) the kind is a number: addresses_octets of rules asks it.
+    // As it was: the kind is a number: addresses_octets of rules asks it.
     fn put_addresses(&mut self, kind: u8, origin: &[u8], destination: &[u8])
         requires origin_len_bound { (length origin.now ≤ 20) × (length destination.now ≤ 20) }
         requires at_bound { self.old.at ≤ 5 }

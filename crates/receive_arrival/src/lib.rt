@@ -16,6 +16,7 @@ use refusals::Refusal;
 use rules::{Decision, Received, Table};
 
 // The answer to an arrival that is refused as a whole: the table as it was.
+// As it was: each call has an answer of its own type, and a refused one is built of that.
 fn refused(t: &Table, r: Refusal) -> Received
     ensures { result ≡ (unreceived t.now [] [] (unplaced (number_of r))).answer }
 {

@@ -5,7 +5,7 @@ ghost use Rattle.rules.specs.Numbers.{data_most};
 use rules::{Fields, Key, Place};
 
 // Its sequence's key, its fields, the place that it is about and what that holds, whether the key is open there, the time, and how many octets of information it has.
-// As it was: (iv) held and at count where found is not set, too: a sequence starts at at, and what no line changes is written back.
+// As it was: held and at count where found is not set, too: a sequence starts at at, and what no line changes is written back.
 #[derive(Clone, Copy)]
 pub struct Judged {
     pub key: Key,

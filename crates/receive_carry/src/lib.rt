@@ -163,7 +163,7 @@ impl Judged {
 }
 
 // The verdict on a segment, by its line.
-// As it was: (i) a line is a value of the rules (Line): receive_lines::line_of answers it, and the clause leads names it.
+// As it was: a line is a value of the rules (Line): receive_lines::line_of answers it, and the clause leads names it.
 pub fn judge(line: Line, j: Judged) -> Verdict
     requires { Tells j.found j.held.octets j.length line }
     ensures leads { (t : Table) (store report octets : List ℕ) → Holds t j → length octets ≡ j.length → Leads (carried_at line t store report j octets) t j.at j.key result octets store report }

@@ -15,6 +15,7 @@ use refusals::Refusal;
 use rules::{Place, Swept, Table};
 
 // The answer to a call that is refused: the table as it was.
+// As it was: each call has an answer of its own type, and a refused one is built of that.
 fn refused(t: &Table, r: Refusal) -> Swept
     ensures { result ≡ (unswept t.now [] (number_of r)).answer }
 {

@@ -10,7 +10,7 @@ use receive_perform::{Told, Verdict};
 use refusals::Refusal;
 
 // The column of the segments that a record of a kind counts. The next column has its octets.
-// As it was: (i) a record's kind is a number of the rules (Record.kind, column_of).
+// As it was: a record's kind is a number of the rules (Record.kind, column_of).
 fn column(kind: u8) -> usize
     ensures { result ≡ column_of kind }
 {
@@ -18,7 +18,7 @@ fn column(kind: u8) -> usize
 }
 
 // Whether a row's totals have room for a segment of n octets, and for its record where it has one.
-// As it was: (i) summary::has_room and summary::add require row < 64, and take a u64, which std makes of no usize but by `as`.
+// As it was: summary::has_room and summary::add require row < 64, and take a u64, which std makes of no usize but by `as`.
 fn has_room(m: &[u64; rules::SUMMARY], row: usize, n: usize, told: Option<Told>) -> bool
     requires { row < 64 }
     ensures { result ≡ room_for m.now row n told }
@@ -34,7 +34,7 @@ fn has_room(m: &[u64; rules::SUMMARY], row: usize, n: usize, told: Option<Told>)
 }
 
 // Counts it there.
-// As it was: (i) as has_room.
+// As it was: as has_room.
 fn add(m: &mut [u64; rules::SUMMARY], row: usize, n: usize, told: Option<Told>)
     requires { (row < 64) × (room_for m.old row n told ≡ true) }
     ensures { m.new ≡ added_in m.old row n told }

@@ -8,6 +8,7 @@ ghost use Rattle.rules.specs.Promises.{OfDelivery};
 use rules::{Decision, Part};
 
 // So many octets of a list from a position on, or none where they are not all inside.
+// As it was: part_of of rules names the list, a place and a number.
 fn part_of(s: &[u8], start: usize, n: usize) -> &[u8]
     ensures { result.now ≡ part_of s.now start n }
 {
@@ -15,6 +16,7 @@ fn part_of(s: &[u8], start: usize, n: usize) -> &[u8]
 }
 
 // So many octets from the start of a place's stretch of the store, or none where they are not all inside it.
+// As it was: part_of_place of rules names them.
 fn part_of_place(store: &[u8], place: usize, n: usize) -> &[u8]
     ensures { result.now ≡ part_of_place store.now place n }
 {

@@ -31,7 +31,7 @@ fn head(r: &Record) -> [u8; 11]
 }
 
 // Writes an address to a report area from a place on, as far as it reaches: its length, and its octets.
-// As it was: (iv) all 20 octets follow the length here, and in a parameter only as many as it says; what is common, an area from a place on, is octets::put_at.
+// As it was: all 20 octets follow the length here, and in a parameter only as many as it says; what is common, an area from a place on, is octets::put_at.
 fn put_address(report: &mut [u8], at: usize, a: &Address)
     requires { at ≤ 65568 }
     ensures report_after { report.new ≡ splice report.old at (recorded a.now) }
@@ -42,7 +42,7 @@ fn put_address(report: &mut [u8], at: usize, a: &Address)
 }
 
 // Writes a record's octets to a report area from a place on, as far as it reaches.
-// As it was: (i) the clause report_after names report and at, and at ≤ 65536 is what it requires.
+// As it was: the clause report_after names report and at, and at ≤ 65536 is what it requires.
 pub fn put_record(report: &mut [u8], at: usize, r: Record)
     requires { at ≤ 65536 }
     ensures report_after { report.new ≡ splice report.old at (record_octets r) }

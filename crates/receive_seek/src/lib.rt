@@ -61,7 +61,7 @@ fn nowhere(reading: Result<Fields, Fault>, key: Key) -> Sought
 }
 
 // Reads a parameter, and seeks the place that it is about. An unsegmented one touches no place.
-// As it was: (i) the clauses reading_value and seeks name t, association and s.
+// As it was: the clauses reading_value and seeks name t, association and s.
 pub fn seek(t: &Table, association: u16, s: &[u8]) -> Sought
     ensures reading_value { (result.reading ≡ reading t.now.registry s.now) × (result.search.at < place_count) }
     ensures seeks { (f : Fields) → result.reading ≡ Ok f → Seeks t.now (key_of association s.now f) f.heading result }

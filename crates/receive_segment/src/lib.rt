@@ -172,7 +172,7 @@ fn received(t: Table, v: Verdict) -> Received
 // A segment at a table, of which it is known whether it is sound, and whether the summary is beside it. All is judged, reading only; then the last verdict is performed, and one place of
 // the copy of the table is written. A refusal writes nothing, and its place stays: so there is one end for both, and the copy goes to the answer at once. A later check goes before the
 // first writing.
-// As it was: (i) the clause OfSegment names each of these.
+// As it was: the clause OfSegment names each of these.
 pub fn segment(
     t: &Table,
     is_sound: bool,

@@ -10,7 +10,7 @@ use lists::every_two;
 use rules::{Context, Entry};
 
 // The kind of a context: 1 of 1998, 2 of 2000, 0 where it is not registered.
-// As it was: (i) 0 stands for none: kind_of of rules answers it, and an entry's kind is an octet.
+// As it was: 0 stands for none: kind_of of rules answers it, and an entry's kind is an octet.
 pub fn kind_of(registry: &[Entry; 8], context: Context) -> u8
     ensures { result ≡ kind_of registry.now context.0 }
 {
@@ -21,7 +21,7 @@ pub fn kind_of(registry: &[Entry; 8], context: Context) -> u8
 }
 
 // Whether an entry is all zero.
-// As it was: (i) the kind is a number: is_unused of rules, and an entry's octet.
+// As it was: the kind is a number: is_unused of rules, and an entry's octet.
 fn is_unused(e: Entry) -> bool
     ensures { result ≡ is_unused e }
 {

@@ -18,6 +18,7 @@ pub struct Piece {
 }
 
 // h: the octets of a header without octet 3a.
+// As it was: the kind is a number: has_addresses of rules asks it.
 pub fn header_length(kind: u8, context: Context, o: usize, d: usize) -> usize
     requires { (o ≤ 20) × (d ≤ 20) }
     ensures value { result ≡ header_for kind context.0 o d }

@@ -15,6 +15,7 @@ use rules::{Heading, Reference, Remaining, Request, Sent, Table};
 use send_cut::Piece;
 
 // Whether what is asked for passes its checks, rooms and area aside; else the first that does not.
+// As it was: the kind is a number: request_checks of rules asks it.
 fn judge(sound: bool, kind: u8, q: Request, o: usize, d: usize, n: usize) -> Result<(), Refusal>
     ensures { number_if result ≡ first (request_checks sound kind q o d n) }
 {
@@ -110,6 +111,7 @@ fn emit(
 }
 
 // One segment of the data, written; or the first refusal.
+// As it was: the arguments are those of the public call, one by one.
 fn segment(
     t: &Table,
     q: Request,

@@ -16,6 +16,7 @@ use lists::every_two;
 use rules::{Place, Table};
 
 // Whether two places are not open with one key.
+// As it was: of places with their marks; registry's are entries, and the rules have a test for each.
 fn are_apart(p: &Place, q: &Place) -> bool
     ensures { result ≡ places_apart p.now q.now }
 {

@@ -12,6 +12,7 @@ ghost use Rattle.sound_free.specs.Weights.{word_of, word_most};
 use rules::{Address, Place};
 
 // Four octets as one number, the first the least: where they stand in a row they are read at once.
+// As it was: four octets by name: of an array that is handed over no proof learns that they are below 256.
 pub fn word(a: u8, b: u8, c: u8, d: u8) -> u64
     ensures value { result ≡ word_of a b c d }
     ensures result_value { eqb result 0 ≡ (is_zero a && is_zero b && is_zero c && is_zero d) }
@@ -21,6 +22,7 @@ pub fn word(a: u8, b: u8, c: u8, d: u8) -> u64
 }
 
 // What an address weighs: 0 where it is all zero.
+// As it was: octets by name, as word asks for them.
 fn address_weight(a: &Address) -> u64
     ensures { eqb result 0 ≡ address_zero a.now }
 {

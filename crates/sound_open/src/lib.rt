@@ -31,7 +31,7 @@ fn most(n: u8, at: u8) -> u64
 }
 
 // Whether of an address with n octets the eight from index at on are zero behind the n: as one number they are not too large.
-// As it was: (iii) the eight have a name each, since of the elements of an array that is handed over no proof learns that they are below 256.
+// As it was: the eight have a name each, since of the elements of an array that is handed over no proof learns that they are below 256.
 fn zero_behind(a: u8, b: u8, c: u8, d: u8, e: u8, f: u8, g: u8, h: u8, n: u8, at: u8) -> bool
     ensures { result ≡ every is_zero (drop (n - at) (a ∷ b ∷ c ∷ d ∷ e ∷ f ∷ g ∷ h ∷ [])) }
 {
@@ -39,6 +39,7 @@ fn zero_behind(a: u8, b: u8, c: u8, d: u8, e: u8, f: u8, g: u8, h: u8, n: u8, at
 }
 
 // Whether an address is zero behind its first n octets. Eight octets at a time: a loop takes some 50 instructions more.
+// As it was: octets by name, as zero_behind asks for them; length and octets are apart in an address.
 fn zero_from(a: &[u8; 20], n: u8) -> bool
     ensures { result ≡ every is_zero (drop n a.now) }
 {
@@ -49,6 +50,7 @@ fn zero_from(a: &[u8; 20], n: u8) -> bool
 }
 
 // Whether an open place's address is to 20, zero filled, and empty for 1998.
+// As it was: the kind is a number: address_sound of rules asks it.
 fn address_sound(kind: u8, a: &Address) -> bool
     ensures { result ≡ address_sound kind a.now }
 {
@@ -57,6 +59,7 @@ fn address_sound(kind: u8, a: &Address) -> bool
 }
 
 // Whether an open place is sound. Addresses are looked at only where the numbers are sound: so fewer values are kept at a time.
+// As it was: the kind is a number, 0 for none: open_sound of rules asks it.
 fn open_sound(registry: &[Entry; 8], timer: u32, clock: u32, p: &Place) -> bool
     ensures { result ≡ open_sound registry.now timer clock p.now }
 {
@@ -88,6 +91,7 @@ pub struct Seen {
 }
 
 // What the first eight octets of an address are, roughly: they tell most addresses apart.
+// As it was: octets by name, as word asks for them.
 fn head(a: &[u8; 20]) -> u64
     ensures value { result ≡ head_of a.now }
     ensures upper_bound { result ≤ 2 * word_most }
@@ -96,7 +100,7 @@ fn head(a: &[u8; 20]) -> u64
 }
 
 // What tells most open places apart, as one number. Any number of the key would do; this is the key but for its addresses' octets, with the first eight of each mixed in.
-// As it was: (iii) `as`, since u64::from of a field behind a reference tells no proof that the field is in its range, and the sums then have no bounds.
+// As it was: `as`, since u64::from of a field behind a reference tells no proof that the field is in its range, and the sums then have no bounds.
 fn digest_of(p: &Place) -> u64
     ensures { result ≡ digest p.now }
 {

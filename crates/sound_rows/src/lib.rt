@@ -162,7 +162,7 @@ fn are_told(m: &[u64; rules::SUMMARY], used: usize, names: &[u16]) -> bool
     let mut apart = true;
     let mut told = 0;
     let mut i = 0;
-    // As it was: (iv) a while over what is told: a for over the rows would need a way out once all are told, and another end for rows that run out, which they never do.
+    // As it was: a while over what is told: a for over the rows would need a way out once all are told, and another end for rows that run out, which they never do.
     while told < used {
         if m[0 + i] != 1 {
             i += 1;

@@ -72,6 +72,7 @@ fn fail(rt: &HostRuntime, what: &[u8], e: io::Error) -> Told {
 }
 
 // Reads once, to the start of an area that is not empty. Where that fails, it is told, and nothing was read. Nothing read, and not failed: the input has ended.
+// As it was: the clause is the reader's own (ReadsAtMost).
 pub fn read<R: Read>(
     rt: &HostRuntime,
     source: &mut R,

@@ -6,6 +6,7 @@ ghost use Rattle.rules.specs.Summary.{number_at, row_of, unused_row, row_for, ta
 ghost use Rattle.summary.specs.Losses.{loss_in};
 
 // The row of an association. The mark is asked second: few rows have the name.
+// As it was: the summary is one array of 8 columns across the C interface, and number_at of rules counts in it.
 pub fn row_of(m: &[u64; rules::SUMMARY], association: u16) -> Option<usize>
     ensures value { result ≡ row_of m.now association }
     ensures by_index { (i : ℕ) → result ≡ Some i → i < 64 }
@@ -20,6 +21,7 @@ pub fn row_of(m: &[u64; rules::SUMMARY], association: u16) -> Option<usize>
 }
 
 // The lowest row that is not used.
+// As it was: the columns, as row_of.
 fn unused_row(m: &[u64; rules::SUMMARY]) -> Option<usize>
     ensures { result ≡ unused_row m.now }
 {
@@ -48,6 +50,7 @@ fn may_grow(number: u64, added: u64) -> bool
 }
 
 // Whether so many segments and octets more fit, in a column and the next.
+// As it was: column and row, as number_at of rules names them, and the sums that total_fits is asked of.
 pub fn has_room(
     m: &[u64; rules::SUMMARY],
     column: usize,
@@ -70,6 +73,7 @@ fn sum_of(number: u64, added: u64) -> u64
 }
 
 // So many segments and octets more.
+// As it was: column, row and sums, as tally of rules names them.
 pub fn add(m: &mut [u64; rules::SUMMARY], column: usize, row: usize, segments: u64, octets: u64)
     requires column_bound { (column < 7) × (row < 64) }
     requires octets_value { (total_fits (number_at m.old column row) (number_at m.old column row + segments) && total_fits (number_at m.old (column + 1) row) (number_at m.old (column + 1) row + octets)) ≡ true }
@@ -82,6 +86,7 @@ pub fn add(m: &mut [u64; rules::SUMMARY], column: usize, row: usize, segments: u
 }
 
 // A row is used for an association.
+// As it was: the columns, as row_of.
 pub fn seat(m: &mut [u64; rules::SUMMARY], row: usize, association: u16)
     requires { row < 64 }
     ensures { m.new ≡ seat m.old row association }

@@ -46,6 +46,7 @@ pub trait Watcher {
         ensures begins { Begins which w.new.at };
 
     // An event that met a table with these places.
+    // As it was: kinds as numbers: event_by of specs asks the octet of a happening.
     fn tell_event(
         &self,
         events: u64,
@@ -269,7 +270,7 @@ fn step<W: Watcher>(
 }
 
 // The records at the front of an input, one after the other, as long as out has room for what is printed of one.
-// As it was: no chain or for, since each turn says how far the next begins (iv).
+// As it was: no chain or for, since each turn says how far the next begins.
 fn run<W: Watcher>(
     who: &W,
     first: u64,

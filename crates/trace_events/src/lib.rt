@@ -19,7 +19,7 @@ pub struct Areas<'a> {
 }
 
 // What a replay hands on beside the areas. Of the registry as read nine records are kept: with nine an open is refused as with more.
-// As it was: the octets stand beside their length: memory is fixed, and keeping of specs/Events speaks of both (i).
+// As it was: the octets stand beside their length: memory is fixed, and keeping of specs/Events speaks of both.
 #[derive(Clone, Copy)]
 pub struct Replay {
     pub registry: [u8; 27],

@@ -25,7 +25,7 @@ pub enum Event {
 }
 
 // An event that happened: its kind, and its answer but for the table. A call that decides nothing has the decision of a refusal.
-// As it was: kind, position and refusal are numbers, and so is a record's kind: happening_of, line_for and item_of of the specs speak of them as numbers (i).
+// As it was: kind, position and refusal are numbers, and so is a record's kind: happening_of, line_for and item_of of the specs speak of them as numbers.
 #[derive(Clone, Copy)]
 pub struct Happening {
     pub decision: Decision,
@@ -37,6 +37,7 @@ pub struct Happening {
 }
 
 // The length of a record's body, by its kind, where the kind is known.
+// As it was: a record's kind is an octet of the trace: body_length of rules asks it.
 pub fn body_length(kind: u8) -> Option<usize>
     ensures { result ≡ body_of kind }
 {
@@ -50,6 +51,7 @@ pub fn body_length(kind: u8) -> Option<usize>
 }
 
 // So many octets of a body, from an index on.
+// As it was: a body and a place in it, as the clause has them.
 fn octets_at<const N: usize>(body: &[u8], at: usize) -> [u8; N]
     requires { at + N ≤ length body.now }
     ensures { result ≡ take N (drop at body.now) }
@@ -60,6 +62,7 @@ fn octets_at<const N: usize>(body: &[u8], at: usize) -> [u8; N]
 }
 
 // A whole record's event, by its kind; none where it is a registry record.
+// As it was: a record's kind is an octet of the trace: item_of of rules asks it.
 #[tactic(auto, using(crate::proofs::Reading::pair_at, crate::proofs::Reading::word_at))]
 pub fn item_of(kind: u8, body: &[u8]) -> Option<Event>
     requires { length body.now ≡ body_length kind }
@@ -86,6 +89,7 @@ pub fn item_of(kind: u8, body: &[u8]) -> Option<Event>
 impl From<Event> for u8 {
     ghost from_gives = { λ e n. n ≡ kind_for e };
 
+    // As it was: the number is the octet that the record begins with (kind_for).
     fn from(e: Event) -> u8 {
         match e {
             Event::Open { .. } => 32,

@@ -41,6 +41,7 @@ impl Writer<'_> {
     }
 
     // A number in decimal. Most numbers of a line have one digit.
+    // As it was: one digit is written by itself, since most numbers have one; the others are the kit's itoa.
     pub fn put_number(&mut self, x: u64)
         requires { self.old.at ≤ 65536 }
         ensures wrote { Writes self.old (decimal x) self.new }
@@ -64,7 +65,7 @@ impl Writer<'_> {
     }
 
     // A space, and a number, or a dash in the place of one.
-    // As it was: a number stands for none, in a record and an answer too, and number_unless of rules speaks of it (i).
+    // As it was: a number stands for none, in a record and an answer too, and number_unless of rules speaks of it.
     pub fn put_unless(&mut self, none: u64, x: u64)
         requires { self.old.at ≤ 65000 }
         ensures wrote { Writes self.old (32 ∷ number_unless none x) self.new }
@@ -78,6 +79,7 @@ impl Writer<'_> {
     }
 
     // The name of an event, by its kind.
+    // As it was: a kind is the octet of the trace's record (name_for).
     fn put_name(&mut self, kind: u8)
         requires { self.old.at ≤ 65536 }
         ensures wrote { Writes self.old (name_for kind) self.new }
@@ -106,6 +108,7 @@ impl Writer<'_> {
     }
 
     // An event's fields: a segment's end with the position of the octet at fault.
+    // As it was: a kind is the octet of the trace's record (fields_for).
     pub fn put_fields(&mut self, h: &Happening, report: &[u8])
         requires { (self.old.at ≤ 1000) × ((h.now.records ≤ records_most) × (record_length * h.now.records ≤ length report.now)) }
         ensures wrote { Writes self.old (fields_for h.now.kind h.now.refusal h.now.position h.now.records report.now) self.new }

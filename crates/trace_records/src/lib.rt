@@ -53,7 +53,7 @@ fn record_of(l: &[u8]) -> Record
 }
 
 // A digit in hex, a capital letter from ten on.
-// As it was: the kit's hex writes small letters, and what the programs print stays (i).
+// As it was: the kit's hex writes small letters, and what the programs print stays.
 fn hex_digit(x: u8) -> u8
     requires { x ≤ 15 }
     ensures { result ≡ hex_digit x }
@@ -65,6 +65,7 @@ fn hex_digit(x: u8) -> u8
 }
 
 // An octet in hex, two digits.
+// As it was: as put_hex.
 fn put_pair(w: &mut Writer<'_>, x: u8)
     requires { w.old.at ≤ 65000 }
     ensures { Writes w.old (hex_of (x ∷ [])) w.new }
@@ -74,6 +75,7 @@ fn put_pair(w: &mut Writer<'_>, x: u8)
 }
 
 // Octets in hex.
+// As it was: the kit's hex writes small letters, and listing of rules has capitals.
 fn put_hex(w: &mut Writer<'_>, octets: &[u8])
     requires { (w.old.at ≤ 60000) × (length octets.now ≤ 20) }
     ensures wrote { Writes w.old (hex_of octets.now) w.new }
@@ -136,6 +138,7 @@ fn put_record(w: &mut Writer<'_>, word: &[u8], r: &Record)
 }
 
 // The line of a record of a report.
+// As it was: a record's kind is an octet (record_from).
 fn put_told(w: &mut Writer<'_>, from: &[u8])
     requires { (w.old.at ≤ 10000) × (length from.now ≡ record_length) }
     ensures wrote { Writes w.old (record_lines (record_from from.now ∷ [])) w.new }
@@ -161,6 +164,7 @@ fn put_records(w: &mut Writer<'_>, report: &[u8], n: usize)
 }
 
 // The line of a place, where it is open: the fields that a loss of its sequence would have, and cause 0.
+// As it was: a record of an open place has no cause and goes nowhere but into a line; receive_sweep's is a loss.
 fn put_place(w: &mut Writer<'_>, word: &[u8], p: &Place)
     requires { (w.old.at ≤ 10000) × (length word.now ≤ 9) }
     ensures wrote { Writes w.old (open_lines word.now (p.now ∷ [])) w.new }
@@ -205,7 +209,7 @@ fn put_decision(w: &mut Writer<'_>, refusal: u8, decision: Decision)
         Decision::Refused => w.put_octet(45),
         Decision::Saved(p) => {
             w.put_word(b"saved");
-            // As it was: u64 has no From for usize (iv).
+            // As it was: u64 has no From for usize.
             w.put_field(p as u64)
         }
         Decision::Delivered(_) => w.put_word(b"delivered"),
@@ -214,6 +218,7 @@ fn put_decision(w: &mut Writer<'_>, refusal: u8, decision: Decision)
 }
 
 // Of a segment's line, how many of its records are the clock's.
+// As it was: a kind is the octet of the trace's record (timeouts_for).
 fn put_timeouts(w: &mut Writer<'_>, h: &Happening)
     requires { w.old.at ≤ 10000 }
     ensures wrote { Writes w.old (timeouts_for h.now.kind h.now.timeouts) w.new }
@@ -239,6 +244,7 @@ fn put_line(w: &mut Writer<'_>, number: u64, h: &Happening, report: &[u8])
 }
 
 // All that is printed of an event: its line, its records, and what an opening drops of the places before it.
+// As it was: a kind is the octet of the trace's record (listing_for).
 pub fn put_event(
     w: &mut Writer<'_>,
     number: u64,

@@ -10,7 +10,7 @@ ghost use Rattle.trace_totals.specs.Pairs.{pair_of};
 use trace_lines::Writer;
 
 // A row's numbers in a column and the next, each behind a space.
-// As it was: the summary is one array of 8 columns across the C interface, and number_at of rules counts in it (i).
+// As it was: the summary is one array of 8 columns across the C interface, and number_at of rules counts in it.
 fn put_pair(w: &mut Writer<'_>, m: &[u64; rules::SUMMARY], column: usize, row: usize)
     requires { (w.old.at ≤ 50000) × ((column < 7) × (row < 64)) }
     ensures wrote { Writes w.old (pair_of m.now column row) w.new }

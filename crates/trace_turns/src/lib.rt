@@ -55,6 +55,7 @@ fn registers(held: &Replay, kind: u8, body: &[u8]) -> Walk
 }
 
 // An event: its step.
+// As it was: a kind is the octet of the trace's record (happening).
 fn happens(held: Replay, lent: &mut Areas<'_>, e: Event, body: &[u8]) -> Walk
     requires { length body.now ≤ 262 }
     ensures of_walk { OfWalk (happening held (stored_by lent.old) (lent_by lent.old) (event_meant e body.now) (1 + length body.now)) result (stored_by lent.new) (lent_by lent.new) }
