@@ -8,6 +8,10 @@ ghost use Rattle.send_cut.specs.Plan.{header_for, plan_of, segments_plan, piece_
 use refusals::Refusal;
 use rules::{Context, Request};
 
+mod shares;
+
+use shares::Shares;
+
 // The piece of the data that a segment carries, and how many segments there are.
 #[derive(Clone, Copy)]
 pub struct Piece {
@@ -40,42 +44,47 @@ fn context_length(context: Context) -> usize
     if context.0 < 128 { 1 } else { 2 }
 }
 
-// Where the piece of segment k starts, where the first carries a octets and each later one b.
-fn piece_from(a: usize, b: usize, k: usize) -> usize
-    requires { (a ≤ 255) × ((b ≤ 255) × (k < 10)) }
-    ensures { result ≡ piece_from a b k }
-{
-    if k == 0 { 0 } else { a + (k - 1) * b }
-}
-
-// How long it is at most.
-fn piece_size(a: usize, b: usize, k: usize) -> usize
-    ensures { result ≡ piece_size a b k }
-{
-    if k == 0 { a } else { b }
-}
-
-// The cut of n octets into segments, and segment k's piece.
-#[tactic(auto, unfolding(crate::specs::Plan::segments_plan))]
-fn cut_segments(a: usize, b: usize, n: usize, k: usize) -> Result<Piece, Refusal>
-    requires a_bound { (a ≤ 255) × ((1 ≤ b) × (b ≤ 255)) }
-    requires a_le_n { (a ≤ n) × (n ≤ 2048) }
-    ensures value { in_numbers result ≡ segments_plan a b n k }
-    ensures cut_possible { CutPossible k result }
-{
-    let count = 1 + (n - a + (b - 1)) / b;
-    if 10 < count {
-        return Err(Refusal::RoomBad);
+impl Shares {
+    // Where the piece of segment k starts.
+    fn piece_from(self, k: usize) -> usize
+        requires { k < 10 }
+        ensures { result ≡ piece_from self.first self.later k }
+    {
+        if k == 0 {
+            0
+        } else {
+            self.first + (k - 1) * self.later
+        }
     }
-    if count <= k {
-        return Err(Refusal::NoSuchSegment);
+
+    // How long it is at most.
+    fn piece_size(self, k: usize) -> usize
+        ensures { result ≡ piece_size self.first self.later k }
+    {
+        if k == 0 { self.first } else { self.later }
     }
-    Ok(Piece {
-        count,
-        segmented: true,
-        from: piece_from(a, b, k),
-        size: piece_size(a, b, k),
-    })
+
+    // The cut of n octets into segments, and segment k's piece.
+    #[tactic(auto, unfolding(crate::specs::Plan::segments_plan))]
+    fn cut_segments(self, n: usize, k: usize) -> Result<Piece, Refusal>
+        requires { (self.first ≤ n) × (n ≤ 2048) }
+        ensures value { in_numbers result ≡ segments_plan self.first self.later n k }
+        ensures cut_possible { CutPossible k result }
+    {
+        let count = 1 + (n - self.first + (self.later - 1)) / self.later;
+        if 10 < count {
+            return Err(Refusal::RoomBad);
+        }
+        if count <= k {
+            return Err(Refusal::NoSuchSegment);
+        }
+        Ok(Piece {
+            count,
+            segmented: true,
+            from: self.piece_from(k),
+            size: self.piece_size(k),
+        })
+    }
 }
 
 // The cut of n octets by the rooms, with h octets of header.
@@ -108,5 +117,9 @@ pub fn cut(h: usize, q: Request, n: usize) -> Result<Piece, Refusal>
     if q.room < h + 2 {
         return Err(Refusal::RoomBad);
     }
-    cut_segments(q.room1 - h - 1, q.room - h - 1, n, q.number)
+    let shares = Shares {
+        first: q.room1 - h - 1,
+        later: q.room - h - 1,
+    };
+    shares.cut_segments(n, q.number)
 }
