@@ -88,7 +88,7 @@ impl Shares {
 }
 
 // The cut of n octets by the rooms, with h octets of header.
-#[tactic(auto, unfolding(crate::specs::Plan::plan_of))]
+#[tactic(auto, unfolding(crate::specs::Plan::plan_of, crate::specs::Plan::segments_plan))]
 pub fn cut(h: usize, q: Request, n: usize) -> Result<Piece, Refusal>
     requires { (h ≤ 46) × (n ≤ 2048) }
     ensures value { in_numbers result ≡ plan_of h q n }
