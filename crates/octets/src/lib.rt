@@ -15,7 +15,6 @@ pub fn put(dst: &mut [u8], src: &[u8])
 }
 
 // Writes src over dst from at on, as far as dst reaches.
-// As it was: the clause names dst and at (splice).
 #[tactic(auto, using(crate::proofs::Splice::splice_rest))]
 pub fn put_at(dst: &mut [u8], at: usize, src: &[u8])
     ensures { dst.new ≡ splice dst.old at src.now }
@@ -25,7 +24,6 @@ pub fn put_at(dst: &mut [u8], at: usize, src: &[u8])
 }
 
 // The n octets of s from a place on, as far as s reaches: a part of it, not a copy.
-// As it was: a place and a number of octets, as the clauses of those who call it name them (take, drop).
 pub fn part(s: &[u8], from: usize, n: usize) -> &[u8]
     ensures { result.now ≡ take n (drop from s.now) }
 {
@@ -34,7 +32,7 @@ pub fn part(s: &[u8], from: usize, n: usize) -> &[u8]
 }
 
 // Two octets as a number.
-// As it was: a function for each width: std has one for each, u16::from_be_bytes and u32::from_be_bytes, and a number of either width would be cast at each call.
+// As it was: (iv) a function for each width: std has one for each, u16::from_be_bytes and u32::from_be_bytes, and a number of either width would be cast at each call.
 pub fn number2(a: u8, b: u8) -> u16
     ensures { result ≡ number (a ∷ b ∷ []) }
 {
@@ -42,7 +40,6 @@ pub fn number2(a: u8, b: u8) -> u16
 }
 
 // Four octets as a number.
-// As it was: four octets by name, as a number of the paper has them: std takes an array of them.
 pub fn number4(a: u8, b: u8, c: u8, d: u8) -> u32
     ensures { result ≡ number (a ∷ b ∷ c ∷ d ∷ []) }
 {

@@ -47,7 +47,6 @@ pub struct Reference(pub u8);
 pub struct Context(pub u16);
 
 // An address: its octets, zero filled, and its length. Both tell addresses apart.
-// As it was: C hands an address over as 20 octets and a length, and both tell addresses apart (same_address).
 #[repr(C)]
 #[derive(Clone, Copy, PartialEq, Eq)]
 pub struct Address {
@@ -67,7 +66,6 @@ pub struct Key {
 }
 
 // One sequence. mark is 1 where it is open; a free place is all zero. start is the time of the first segment.
-// As it was: the mark is an octet: any bits are a value of a place, which C hands over.
 #[repr(C)]
 #[derive(Clone, Copy)]
 pub struct Place {
@@ -81,7 +79,6 @@ pub struct Place {
 }
 
 // A registered context and its kind, 1 (of 1998) or 2 (of 2000); an unused entry is all zero.
-// As it was: the kind is an octet, and 0 stands for none: any bits are a value of an entry, which C hands over.
 #[repr(C)]
 #[derive(Clone, Copy)]
 pub struct Entry {
@@ -100,7 +97,6 @@ pub struct Table {
 }
 
 // What is made of a delivery or a loss. Reference 255 is an unsegmented parameter.
-// As it was: a record is read back from any octets (record_from), so its kind is one of them, and 255 stands for no reference.
 #[derive(Clone, Copy)]
 pub struct Record {
     pub key: Key,
@@ -114,7 +110,6 @@ pub struct Record {
 // A refusal: its number, 0 for none, and the position of the octet at fault, or NOWHERE.
 pub const NOWHERE: u16 = 65535;
 
-// As it was: what a check says is two numbers (Refusals.first, first_at): 0 for none, and nowhere.
 #[derive(Clone, Copy)]
 pub struct Fault {
     pub number: u8,
@@ -122,7 +117,6 @@ pub struct Fault {
 }
 
 // What a parameter's octets 1 to 3a say, with the kind of its context. It is unsegmented where it is new and none remains.
-// As it was: the kind is what an entry has, any octet (kind_of), and 255 stands for no reference (reference_of).
 #[derive(Clone, Copy)]
 pub struct Heading {
     pub context: Context,
@@ -177,7 +171,6 @@ pub enum Decision {
 }
 
 // The answers of the calls. A refusal of 0 is none; an arrival's has the position of the octet at fault too, or NOWHERE, and how many of the records are the clock's: they stand first.
-// As it was: 0 for no refusal and NOWHERE, as the paper and C have them (unreceived, reception).
 #[derive(Clone, Copy)]
 pub struct Received {
     pub table: Table,
@@ -188,7 +181,6 @@ pub struct Received {
     pub timeouts: u8,
 }
 
-// As it was: C has this answer: 0 is no refusal.
 #[repr(C)]
 #[derive(Clone, Copy)]
 pub struct Swept {
@@ -197,7 +189,6 @@ pub struct Swept {
     pub records: u8,
 }
 
-// As it was: C has this answer: 0 is no refusal.
 #[repr(C)]
 #[derive(Clone, Copy)]
 pub struct Opened {
@@ -205,7 +196,6 @@ pub struct Opened {
     pub refusal: u8,
 }
 
-// As it was: C has this answer: 0 is no refusal, and length counts octets of an area of C.
 #[repr(C)]
 #[derive(Clone, Copy)]
 pub struct Sent {
