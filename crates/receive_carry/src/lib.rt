@@ -8,7 +8,8 @@ ghost use Rattle.rules.specs.Places.{free_place};
 ghost use Rattle.rules.specs.Receiving.{open_place, longer};
 ghost use Rattle.receive_lines.specs.Telling.{Tells};
 ghost use Rattle.receive_perform.specs.Performing.{Fits, Leads};
-ghost use Rattle.receive_carry.specs.Carried.{found_if, held_if, taken_to, saving_from, told_of, telling_of, begun_by, Holds, carried_at};
+ghost use Rattle.table.specs.Seeking.{place_in, open_in, is_found};
+ghost use Rattle.receive_carry.specs.Carried.{held_if, taken_to, saving_from, told_of, telling_of, begun_by, Holds, carried_at};
 
 mod judged;
 
@@ -85,11 +86,11 @@ impl Judged {
 
     // A segment that breaks its open sequence: both are lost, and the place is free.
     fn lose(&self, cause: u8) -> Verdict
-        ensures { let j = self.now in result ≡ telling_of lost cause j.held.instruction (j.held.segments + 1) (j.held.octets + j.length) (taken_to j.fields.information free_place (Decision.Lost cause (Some j.at))) }
+        ensures { let j = self.now in result ≡ telling_of lost cause j.held.instruction (j.held.segments + 1) (j.held.octets + j.length) (taken_to j.fields.information free_place (Decision.Lost cause (Some (place_in j.search)))) }
     {
         Verdict {
             told: Some(told(rules::LOST, cause, &self.longer())),
-            ..self.taken(table::free_place(), Decision::Lost(cause, Some(self.at)))
+            ..self.taken(table::free_place(), Decision::Lost(cause, Some(self.search.at())))
         }
     }
 
@@ -105,9 +106,9 @@ impl Judged {
 
     // Lines 1, 4, 5 and 6: what was saved, if anything, and this segment are lost.
     fn broken(&self, cause: u8) -> Verdict
-        ensures { let j = self.now in result ≡ telling_of lost cause (if j.found then j.held.instruction else j.fields.heading.instruction) ((held_if j.found j.held).segments + 1) ((held_if j.found j.held).octets + j.length) (taken_to j.fields.information (if j.found then free_place else j.held) (Decision.Lost cause (found_if j.found j.at))) }
+        ensures { let j = self.now in result ≡ telling_of lost cause (if is_found j.search then j.held.instruction else j.fields.heading.instruction) ((held_if (is_found j.search) j.held).segments + 1) ((held_if (is_found j.search) j.held).octets + j.length) (taken_to j.fields.information (if is_found j.search then free_place else j.held) (Decision.Lost cause (open_in j.search))) }
     {
-        if self.found {
+        if self.search.is_found() {
             self.lose(cause)
         } else {
             self.stray(cause)
@@ -116,32 +117,32 @@ impl Judged {
 
     // Line 2: what was saved is lost, and this segment starts the sequence in the same place.
     fn restart(&self) -> Verdict
-        ensures { let j = self.now in result ≡ telling_of lost 3 j.held.instruction j.held.segments j.held.octets (saving_from 0 (taken_to j.fields.information (begun_by j j.length) (Decision.Lost 3 (Some j.at)))) }
+        ensures { let j = self.now in result ≡ telling_of lost 3 j.held.instruction j.held.segments j.held.octets (saving_from 0 (taken_to j.fields.information (begun_by j j.length) (Decision.Lost 3 (Some (place_in j.search))))) }
     {
         Verdict {
             saves: Some(0),
             told: Some(told(rules::LOST, 3, &self.held)),
-            ..self.taken(self.begun(), Decision::Lost(3, Some(self.at)))
+            ..self.taken(self.begun(), Decision::Lost(3, Some(self.search.at())))
         }
     }
 
     // Line 3: saved in the place for a new sequence.
     fn start(&self) -> Verdict
-        ensures { result ≡ saving_from 0 (taken_to self.now.fields.information (begun_by self.now self.now.length) (Decision.Saved self.now.at)) }
+        ensures { result ≡ saving_from 0 (taken_to self.now.fields.information (begun_by self.now self.now.length) (Decision.Saved (place_in self.now.search))) }
     {
         Verdict {
             saves: Some(0),
-            ..self.taken(self.begun(), Decision::Saved(self.at))
+            ..self.taken(self.begun(), Decision::Saved(self.search.at()))
         }
     }
 
     // Line 7, none remaining: saved too, and delivered.
     fn finish(&self) -> Verdict
-        ensures { let j = self.now in result ≡ telling_of delivered 0 j.held.instruction (j.held.segments + 1) (j.held.octets + j.length) (saving_from j.held.octets (taken_to j.fields.information free_place (Decision.Delivered (Part.OfStore j.at (j.held.octets + j.length))))) }
+        ensures { let j = self.now in result ≡ telling_of delivered 0 j.held.instruction (j.held.segments + 1) (j.held.octets + j.length) (saving_from j.held.octets (taken_to j.fields.information free_place (Decision.Delivered (Part.OfStore (place_in j.search) (j.held.octets + j.length))))) }
     {
         let whole = self.longer();
         let part = Part::OfStore {
-            place: self.at,
+            place: self.search.at(),
             length: usize::from(whole.octets),
         };
         Verdict {
@@ -153,11 +154,11 @@ impl Judged {
 
     // Line 7, more remaining: saved.
     fn go_on(&self) -> Verdict
-        ensures { let j = self.now in result ≡ saving_from j.held.octets (taken_to j.fields.information (longer j.held j.key j.fields.heading j.length) (Decision.Saved j.at)) }
+        ensures { let j = self.now in result ≡ saving_from j.held.octets (taken_to j.fields.information (longer j.held j.key j.fields.heading j.length) (Decision.Saved (place_in j.search))) }
     {
         Verdict {
             saves: Some(self.held.octets),
-            ..self.taken(self.longer(), Decision::Saved(self.at))
+            ..self.taken(self.longer(), Decision::Saved(self.search.at()))
         }
     }
 }
@@ -165,8 +166,8 @@ impl Judged {
 // The verdict on a segment, by its line.
 // As it was: a line is a value of the rules (Line): receive_lines::line_of answers it, and the clause leads names it.
 pub fn judge(line: Line, j: Judged) -> Verdict
-    requires { Tells j.found j.held.octets j.length line }
-    ensures leads { (t : Table) (store report octets : List ℕ) → Holds t j → length octets ≡ j.length → Leads (carried_at line t store report j octets) t j.at j.key result octets store report }
+    requires { Tells (is_found j.search) j.held.octets j.length line }
+    ensures leads { (t : Table) (store report octets : List ℕ) → Holds t j → length octets ≡ j.length → Leads (carried_at line t store report j octets) t (place_in j.search) j.key result octets store report }
     ensures information_value { (result.information ≡ j.fields.information) × ((store : ℕ) → store_least ≤ store → Fits result store j.length) }
     ensures taken { result.refused ≡ None }
 {

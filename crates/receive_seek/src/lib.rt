@@ -1,10 +1,11 @@
 // A parameter read, and the place that it is about.
 #![tactic(auto)]
 
-ghost use Rattle.std.specs.Prelude.{◌≡◌, false, ◌≤◌, ◌<◌};
+ghost use Rattle.std.specs.Prelude.{◌≡◌, ◌≤◌, ◌<◌};
 ghost use Rattle.rules.specs.Numbers.{address_most, place_count};
 ghost use Rattle.rules.specs.Receiving.{address_at, key_of};
 ghost use Rattle.param_read.specs.Reading.{reading};
+ghost use Rattle.table.specs.Seeking.{place_in};
 ghost use Rattle.receive_seek.specs.Seeking.{Seeks};
 
 use rules::{Address, Fault, Fields, Key, Place, Span, Table};
@@ -47,23 +48,19 @@ fn key_of(association: u16, s: &[u8], f: &Fields) -> Key
 
 // A parameter that touches no place.
 fn nowhere(reading: Result<Fields, Fault>, key: Key) -> Sought
-    ensures { result ≡ record { reading = reading; key = key; search = record { at = 0; found = false; vacant = false } } }
+    ensures { result ≡ record { reading = reading; key = key; search = Search.Nowhere } }
 {
     Sought {
         reading,
         key,
-        search: Search {
-            at: 0,
-            found: false,
-            vacant: false,
-        },
+        search: Search::Nowhere,
     }
 }
 
 // Reads a parameter, and seeks the place that it is about. An unsegmented one touches no place.
 // As it was: the clauses reading_value and seeks name t, association and s.
 pub fn seek(t: &Table, association: u16, s: &[u8]) -> Sought
-    ensures reading_value { (result.reading ≡ reading t.now.registry s.now) × (result.search.at < place_count) }
+    ensures reading_value { (result.reading ≡ reading t.now.registry s.now) × (place_in result.search < place_count) }
     ensures seeks { (f : Fields) → result.reading ≡ Ok f → Seeks t.now (key_of association s.now f) f.heading result }
 {
     let reading = param_read::read(&t.registry, s);

@@ -30,9 +30,12 @@ use Rattle.receive_lines.specs.Telling.{Tells}
 use Rattle.octets.proofs.Splice.{splice-nil}
 use Rattle.receive_perform.specs.Performing.{refused_with, records_in, saved_by, told_by, Fits, answer_of, Leads}
 use Rattle.receive_perform.specs.declared.Verdict.{Verdict}
-use Rattle.receive_carry.specs.Carried.{found_if, held_if, carried_at, Fit}
+use Rattle.receive_carry.specs.Carried.{held_if, carried_at, Fit}
 use Rattle.receive_carry.proofs.Stepping.{kept}
 use Rattle.receive_carry.specs.declared.judged.Judged.{Judged}
+use Rattle.table.specs.declared.Search.{Search}
+use Rattle.table.specs.declared.Search.TheVariants.{Open, Vacant, Nowhere}
+use Rattle.table.specs.Seeking.{place_in, is_found, open_in, is_nowhere, vacant_in}
 use Rattle.receive_seek.specs.Seeking.{Seeks}
 use Rattle.receive_seek.specs.declared.Sought.{Sought}
 use Rattle.receive_segment.specs.Arrival.{arrival, OfVerdict}
@@ -88,10 +91,10 @@ unfolding line_of
 line-alone is_open a x g n e = simp e
 
 -- a line that touches places does the same by the one place that a segment is about
-module _ (t : Table) (store : List ℕ) (key : Key) (f : Fields) (octets : List ℕ) (at : ℕ) (found : Bool) (held : Place) (place vacant : Option ℕ) (p : Place)
-    (ep : place ≡ found_if found at) (eh : p ≡ held_if found held) where
-  effect_is : (line : Line) → (is_start line ≡ true → vacant ≡ Some at)
-      → effect_of line t store key f octets (found_if found at) (held_if found held) (Some at) ≡ effect_of line t store key f octets place p vacant
+module _ (t : Table) (store : List ℕ) (key : Key) (f : Fields) (octets : List ℕ) (q : Search) (held : Place) (place vacant : Option ℕ) (p : Place)
+    (ep : place ≡ open_in q) (eh : p ≡ held_if (is_found q) held) where
+  effect_is : (line : Line) → (is_start line ≡ true → vacant ≡ Some (place_in q))
+      → effect_of line t store key f octets (open_in q) (held_if (is_found q) held) (Some (place_in q)) ≡ effect_of line t store key f octets place p vacant
   unfolding effect_of
   effect_is Unsegmented free = refl
   effect_is (Broken cause) free = rw (ep, eh)
@@ -100,35 +103,48 @@ module _ (t : Table) (store : List ℕ) (key : Key) (f : Fields) (octets : List 
   effect_is Final free = rw (ep, eh)
   effect_is Next free = rw (ep, eh)
 
-saved-is : (ps : List Place) (at : ℕ) (found : Bool) (held : Place) (place : Option ℕ) → place ≡ found_if found at → held ≡ get_or ps at no_place → place_at ps place ≡ held_if found held
-saved-is ps at true held place e h = rw e (sym h)
-saved-is ps at false held place e h = rw e
+saved-is : (ps : List Place) (q : Search) (held : Place) (place : Option ℕ) → place ≡ open_in q → held ≡ get_or ps (place_in q) no_place → place_at ps place ≡ held_if (is_found q) held
+saved-is ps (Open at) held place e h = rw e (sym h)
+saved-is ps (Vacant at) held place e h = rw e
+saved-is ps Nowhere held place e h = rw e
+
+-- what a search says of a key that is not open
+nowhere-is : (q : Search) (vacant : Option ℕ) → vacant ≡ vacant_in q → is_found q ≡ false → is_nowhere q ≡ not (is_at vacant)
+nowhere-is (Open at) vacant e h = absurd (true≢false h)
+nowhere-is (Vacant at) vacant e h = rw e
+nowhere-is Nowhere vacant e h = rw e
+
+vacant-is : (q : Search) (vacant : Option ℕ) → vacant ≡ vacant_in q → is_found q ≡ false → is_nowhere q ≡ false → vacant ≡ Some (place_in q)
+vacant-is (Open at) vacant e h n = absurd (true≢false h)
+vacant-is (Vacant at) vacant e h n = e
+vacant-is Nowhere vacant e h n = absurd (true≢false n)
 
 -- a segment as its line is carried out
 abbrev pub judged_of : Table → Fields → Sought → (held : Place) → ℕ → held.octets ≤ data_most → held.segments ≤ 9 → Judged
 judged_of t f q held n a b =
-    record { key = q.key; fields = f; held = held; clock = t.clock; at = q.search.at; found = q.search.found; length = n; octets_fit = a; segments_fit = b }
+    record { key = q.key; fields = f; held = held; clock = t.clock; search = q.search; length = n; octets_fit = a; segments_fit = b }
 
 -- what the steps find of a segment
 module _ (t : Table) (store report : List ℕ) (f : Fields) (octets : List ℕ) (q : Sought) (held : Place) (line : Line)
-    (seeks : Seeks t q.key f.heading q) (there : held ≡ get_or t.places q.search.at no_place)
-    (el : line ≡ line_of q.search.found held.remaining.0 held.octets f.heading (length octets)) (tells : Tells q.search.found held.octets (length octets) line) where
+    (seeks : Seeks t q.key f.heading q) (there : held ≡ get_or t.places (place_in q.search) no_place)
+    (el : line ≡ line_of (is_found q.search) held.remaining.0 held.octets f.heading (length octets)) (tells : Tells (is_found q.search) held.octets (length octets) line) where
   line-at : is_unsegmented f.heading.new f.heading.remaining.0 ≡ false → line ≡ line_at t q.key f.heading (length octets)
-  line-at a = el ∙ go q.search.found (seeks.points a).open_at
+  line-at a = el ∙ go q.search (seeks.points a).open_at there
     where
-      go : (b : Bool) → place_of q.key t.places ≡ found_if b q.search.at
-          → line_of b held.remaining.0 held.octets f.heading (length octets) ≡ line_at t q.key f.heading (length octets)
-      go true e = rw (e, there)
-      go false e = rw e (line-closed held.remaining.0 free_place.remaining.0 held.octets free_place.octets f.heading (length octets))
+      go : (r : Search) → place_of q.key t.places ≡ open_in r → held ≡ get_or t.places (place_in r) no_place
+          → line_of (is_found r) held.remaining.0 held.octets f.heading (length octets) ≡ line_at t q.key f.heading (length octets)
+      go (Open at) e h = rw (e, h)
+      go (Vacant at) e h = rw e (line-closed held.remaining.0 free_place.remaining.0 held.octets free_place.octets f.heading (length octets))
+      go Nowhere e h = rw e (line-closed held.remaining.0 free_place.remaining.0 held.octets free_place.octets f.heading (length octets))
 
   alone-line : is_unsegmented f.heading.new f.heading.remaining.0 ≡ true → line ≡ Unsegmented
-  alone-line a = el ∙ line-alone q.search.found held.remaining.0 held.octets f.heading (length octets) a
+  alone-line a = el ∙ line-alone (is_found q.search) held.remaining.0 held.octets f.heading (length octets) a
 
   -- a line that needs vacant is that of a key that is not open
-  start-closed : is_start line ≡ true → q.search.found ≡ false
+  start-closed : is_start line ≡ true → is_found q.search ≡ false
   start-closed start = go line tells start
     where
-      go : (l : Line) → Tells q.search.found held.octets (length octets) l → is_start l ≡ true → q.search.found ≡ false
+      go : (l : Line) → Tells (is_found q.search) held.octets (length octets) l → is_start l ≡ true → is_found q.search ≡ false
       go Unsegmented z h = absurd (true≢false (sym h))
       go (Broken cause) z h = absurd (true≢false (sym h))
       go Restart z h = absurd (true≢false (sym h))
@@ -136,21 +152,17 @@ module _ (t : Table) (store report : List ℕ) (f : Fields) (octets : List ℕ) 
       go Final z h = absurd (true≢false (sym h))
       go Next z h = absurd (true≢false (sym h))
 
-  same-room : is_unsegmented f.heading.new f.heading.remaining.0 ≡ false → (is_start line && not q.search.vacant) ≡ (is_start line && not (is_at (lowest_free t.places)))
+  same-room : is_unsegmented f.heading.new f.heading.remaining.0 ≡ false → (is_start line && is_nowhere q.search) ≡ (is_start line && not (is_at (lowest_free t.places)))
   same-room a = go (is_start line) refl
     where
-      go : (b : Bool) → is_start line ≡ b → (b && not q.search.vacant) ≡ (b && not (is_at (lowest_free t.places)))
-      go true start = ap not ((seeks.points a).has-vacant (start-closed start))
+      go : (b : Bool) → is_start line ≡ b → (b && is_nowhere q.search) ≡ (b && not (is_at (lowest_free t.places)))
+      go true start = let closed = start-closed start in nowhere-is q.search _ ((seeks.points a).free-at closed) closed
       go false start = refl
 
-  free-at : is_unsegmented f.heading.new f.heading.remaining.0 ≡ false → (is_start line && not q.search.vacant) ≡ false → is_start line ≡ true → lowest_free t.places ≡ Some q.search.at
-  free-at a e start = (seeks.points a).free-at (start-closed start) (roomy q.search.vacant (simp start at e))
-    where
-      roomy : (b : Bool) → not b ≡ false → b ≡ true
-      roomy true h = refl
-      roomy false h = absurd (true≢false h)
+  free-at : is_unsegmented f.heading.new f.heading.remaining.0 ≡ false → (is_start line && is_nowhere q.search) ≡ false → is_start line ≡ true → lowest_free t.places ≡ Some (place_in q.search)
+  free-at a e start = let closed = start-closed start in vacant-is q.search _ ((seeks.points a).free-at closed) closed (simp start at e)
 
-  pub is-full : (is_start line && not q.search.vacant) ≡ true → unreceived t store report (unplaced 10) ≡ arrival t store report q.key f octets
+  pub is-full : (is_start line && is_nowhere q.search) ≡ true → unreceived t store report (unplaced 10) ≡ arrival t store report q.key f octets
   unfolding arrival
   is-full e = go (is_unsegmented f.heading.new f.heading.remaining.0) refl
     where
@@ -158,7 +170,7 @@ module _ (t : Table) (store report : List ℕ) (f : Fields) (octets : List ℕ) 
       go true a = absurd (true≢false (sym (simp (alone-line a) at e)))
       go false a = simp (rw (line-at a) at (sym (same-room a) ∙ e))
 
-  pub is_carried : (n : ℕ) (fits : held.octets ≤ data_most) (few : held.segments ≤ 9) → (is_start line && not q.search.vacant) ≡ false → carried_at line t store report (judged_of t f q held n fits few) octets ≡ arrival t store report q.key f octets
+  pub is_carried : (n : ℕ) (fits : held.octets ≤ data_most) (few : held.segments ≤ 9) → (is_start line && is_nowhere q.search) ≡ false → carried_at line t store report (judged_of t f q held n fits few) octets ≡ arrival t store report q.key f octets
   unfolding carried_at arrival effect_of
   is_carried n fits few e = go (is_unsegmented f.heading.new f.heading.remaining.0) refl
     where
@@ -167,8 +179,8 @@ module _ (t : Table) (store report : List ℕ) (f : Fields) (octets : List ℕ) 
       go true a = rw (alone-line a, line-alone (is_at (place_of q.key t.places)) (place_at t.places (place_of q.key t.places)).remaining.0 (place_at t.places (place_of q.key t.places)).octets f.heading (length octets) a)
       go false a =
           let place : Option ℕ = place_of q.key t.places in
-          let same = effect_is t store q.key f octets q.search.at q.search.found held place (lowest_free t.places) (place_at t.places place)
-          (seeks.points a).open_at (saved-is t.places q.search.at q.search.found held place (seeks.points a).open_at there) line (free-at a e) in
+          let same = effect_is t store q.key f octets q.search held place (lowest_free t.places) (place_at t.places place)
+          (seeks.points a).open_at (saved-is t.places q.search held place (seeks.points a).open_at there) line (free-at a e) in
           ap (reception_of t report) same ∙ rw (← line-at a) (simp (sym (same-room a) ∙ e))
 
 every_get : {A : Type 0} (f : A → Bool) (l : List A) (d : A) (i : ℕ) → every f l ≡ true → f d ≡ true → f (get_or l i d) ≡ true

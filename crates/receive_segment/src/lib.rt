@@ -13,6 +13,7 @@ ghost use Rattle.refusals.specs.Numbers.{number_of};
 ghost use Rattle.param_read.specs.Reading.{reading};
 ghost use Rattle.receive_perform.specs.Performing.{refused_with, fault_of, count_told, Fits, Leads};
 ghost use Rattle.receive_count.specs.Counting.{sums_by, OfCount};
+ghost use Rattle.table.specs.Seeking.{place_in};
 ghost use Rattle.receive_seek.specs.Seeking.{Seeks};
 ghost use Rattle.rules.specs.Summary.{summary_sound};
 ghost use Rattle.receive_segment.specs.Arrival.{arrival, OfVerdict, OfWeighing, OfSegment, settled_by};
@@ -43,16 +44,15 @@ fn refused(fault: Fault, held: Place) -> Verdict
 // The verdict on a segment that has been read. The checks of where its line takes it are the last ones.
 fn arrive(t: &Table, s: &[u8], f: Fields, q: Sought, held: Place) -> Verdict
     requires t_value { (sound t.now ≡ true) × ((reading t.now.registry s.now ≡ Ok f) × Seeks t.now q.key f.heading q) }
-    requires at_lt_place_count { (q.search.at < place_count) × (held ≡ get_or t.now.places q.search.at no_place) }
-    ensures by_index { (store report : List ℕ) → Leads (arrival t.now store report q.key f (information_of s.now f)) t.now q.search.at q.key result (drop result.information s.now) store report }
+    requires at_lt_place_count { (place_in q.search < place_count) × (held ≡ get_or t.now.places (place_in q.search) no_place) }
+    ensures by_index { (store report : List ℕ) → Leads (arrival t.now store report q.key f (information_of s.now f)) t.now (place_in q.search) q.key result (drop result.information s.now) store report }
     ensures by_index_2 { (store : ℕ) → store_least ≤ store → Fits result store (length (drop result.information s.now)) }
     ensures information_value { result.refused ≡ None → result.information ≡ f.information }
     ensures some { (x : Fault) → result.refused ≡ Some x → x.number ≡ 0 → ⊥ }
 {
     let n = param_read::tail(s, f.information).len();
-    let search = q.search;
-    let line = receive_lines::line_of(search.found, held.remaining, held.octets, f.heading, n);
-    let full = receive_lines::starts(line) & !search.vacant;
+    let line = receive_lines::line_of(q.search.is_found(), held.remaining, held.octets, f.heading, n);
+    let full = receive_lines::starts(line) & q.search.is_nowhere();
     if full {
         return refused(unplaced(Refusal::NoPlaceFree), held);
     }
@@ -61,8 +61,7 @@ fn arrive(t: &Table, s: &[u8], f: Fields, q: Sought, held: Place) -> Verdict
         fields: f,
         held,
         clock: t.clock,
-        at: search.at,
-        found: search.found,
+        search: q.search,
         length: n as u8,
     };
     receive_carry::judge(line, j)
@@ -96,8 +95,8 @@ fn judge(
 ) -> Verdict
     requires is_sound_value { is_sound ≡ sound t.now }
     requires reading_value { (q.reading ≡ reading t.now.registry s.now) × ((f : Fields) → q.reading ≡ Ok f → Seeks t.now (key_of association s.now f) f.heading q) }
-    requires at_lt_place_count { (q.search.at < place_count) × (held ≡ get_or t.now.places q.search.at no_place) }
-    ensures { OfVerdict t.now store report association s.now q.search.at q.key result }
+    requires at_lt_place_count { (place_in q.search < place_count) × (held ≡ get_or t.now.places (place_in q.search) no_place) }
+    ensures { OfVerdict t.now store report association s.now (place_in q.search) q.key result }
 {
     match readable(is_sound, store, report, q.reading) {
         Ok(f) => arrive(t, s, f, q, held),
@@ -187,7 +186,7 @@ pub fn segment(
     ensures { OfSegment t.now m.old store.old report.old association s.now result m.new store.new report.new }
 {
     let q = receive_seek::seek(t, association, s);
-    let at = q.search.at;
+    let at = q.search.at();
     let held = t.places[at];
     let v = judge(
         t,

@@ -1,10 +1,11 @@
 -- What a search passes by does not hold the key.
-use Rattle.std.specs.Prelude.{if◌then◌else◌, Option, Some, None, unwrap_or, is_some}
+use Rattle.std.specs.Prelude.{if◌then◌else◌, Option, Some, None}
 use Rattle.std.proofs.Common.{◌≡◌, ℕ, suc, ◌+◌, ◌<◌, Bool, true, false, true≢false, ◌&&◌, eqb, List, [], ◌∷◌, length, sym, refl, ◌∙◌, arith}
 use mathlib.Core.Bool.{and-true, and-false, and_comm}
 use Rattle.rules.specs.Places.{same_octets, same_address, same_key, is_open, holds, first_from}
 use Rattle.rules.specs.declared.Key.{Key}
 use Rattle.rules.specs.declared.Place.{Place}
+use Rattle.table.specs.declared.Search.TheVariants.{Open, Vacant, Nowhere}
 use Rattle.table.specs.Seeking.{same_addresses, Points}
 
 -- the order in which fields are compared does not matter
@@ -80,9 +81,11 @@ found-within test (p ∷ ps) i k e = go (test p) e (found-within test ps (i + 1)
     go false f more = let m = more f in omega arith
 
 -- what is told of a key that is found, and of one that is not
-pub points-found : (vacant : Option ℕ) (at : ℕ) → at < 16 → Points (Some at) vacant (record { at = at; found = true; vacant = true })
-points-found vacant at h = record { inside = h; open_at = refl; has-vacant = λ e. absurd (true≢false e); free-at = λ e. absurd (true≢false e) }
+pub points-found : (vacant : Option ℕ) (at : ℕ) → at < 16 → Points (Some at) vacant (Open at)
+points-found vacant at h = record { inside = h; open_at = refl; free-at = λ e. absurd (true≢false e) }
 
-pub points-none : (vacant : Option ℕ) → ((k : ℕ) → vacant ≡ Some k → k < 16) → Points None vacant (record { at = unwrap_or vacant 0; found = false; vacant = is_some vacant })
-points-none (Some k) h = record { inside = h k refl; open_at = refl; has-vacant = λ e. refl; free-at = λ e f. refl }
-points-none None h = record { inside = omega arith; open_at = refl; has-vacant = λ e. refl; free-at = λ e f. absurd (true≢false (sym f)) }
+pub points-vacant : (at : ℕ) → at < 16 → Points None (Some at) (Vacant at)
+points-vacant at h = record { inside = h; open_at = refl; free-at = λ e. refl }
+
+pub points-none : Points None None Nowhere
+points-none = record { inside = omega arith; open_at = refl; free-at = λ e. refl }

@@ -4,7 +4,7 @@
 ghost use Rattle.std.specs.Prelude.{◌≡◌};
 ghost use Rattle.rules.specs.Numbers.{elapsed};
 ghost use Rattle.rules.specs.Places.{same_key, holds, place_of, lowest_free, free_place};
-ghost use Rattle.table.specs.Seeking.{same_addresses, Points};
+ghost use Rattle.table.specs.Seeking.{same_addresses, place_in, is_found, is_nowhere, Points};
 
 use rules::{Address, Context, Key, Place, Reference, Remaining};
 
@@ -23,12 +23,39 @@ pub fn same_key(a: &Key, b: &Key) -> bool
     a == b
 }
 
-// The place that a key's segment is about: the key's own where it is found, or else the lowest free one where there is vacant, or else 0. Where the key is found vacant says nothing.
+// The place that a key's segment is about: its own, where the key is open, or else the lowest free one, where one is free.
 #[derive(Clone, Copy)]
-pub struct Search {
-    pub at: usize,
-    pub found: bool,
-    pub vacant: bool,
+pub enum Search {
+    Open(usize),
+    Vacant(usize),
+    Nowhere,
+}
+
+impl Search {
+    // That place; the first one stands for none.
+    pub fn at(self) -> usize
+        ensures { result ≡ place_in self }
+    {
+        match self {
+            Search::Open(at) => at,
+            Search::Vacant(at) => at,
+            Search::Nowhere => 0,
+        }
+    }
+
+    // Whether the key is open there.
+    pub fn is_found(self) -> bool
+        ensures { result ≡ is_found self }
+    {
+        matches!(self, Search::Open(_))
+    }
+
+    // Whether there is none.
+    pub fn is_nowhere(self) -> bool
+        ensures { result ≡ is_nowhere self }
+    {
+        matches!(self, Search::Nowhere)
+    }
 }
 
 // Whether two keys have the same octets of addresses.
@@ -63,20 +90,12 @@ fn place_of(places: &[Place; 16], k: &Key) -> Option<usize>
 pub fn search_for(places: &[Place; 16], k: &Key) -> Search
     ensures { Points (place_of k.now places.now) (lowest_free places.now) result }
 {
-    match place_of(places, k) {
-        Some(at) => Search {
-            at,
-            found: true,
-            vacant: true,
-        },
-        None => {
-            let vacant = lowest_free(places);
-            Search {
-                at: vacant.unwrap_or(0),
-                found: false,
-                vacant: vacant.is_some(),
-            }
-        }
+    if let Some(at) = place_of(places, k) {
+        return Search::Open(at);
+    }
+    match lowest_free(places) {
+        Some(at) => Search::Vacant(at),
+        None => Search::Nowhere,
     }
 }
 

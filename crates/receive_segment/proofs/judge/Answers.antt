@@ -5,6 +5,7 @@ use Rattle.rules.specs.Soundness.{sound}
 use Rattle.rules.specs.Receiving.{information_of, lent_checks}
 use Rattle.rules.specs.declared.Key.{Key}
 use Rattle.param_read.specs.Reading.{reading}
+use Rattle.table.specs.Seeking.{place_in}
 use Rattle.receive_segment.specs.Arrival.{arrival}
 use Rattle.receive_seek.proofs.Reading.{read-fields, read_number}
 use Rattle.receive_segment.proofs.Arriving.{leads-as, refused-verdict, segment-read, after_reading}
@@ -48,6 +49,6 @@ returns-in-Err c =
     let x = c.in-Err.fault in
     let read : judged_at (lent_checks record_length (sound t) a.store a.report) Err (reading t.registry s) ≡ Err x =
     rw (← c.requires.is_sound_value, ← c.requires.reading_value.0) (sym c.in-Err.ensures.value) in
-    refused-verdict t a.q.search.at x a.q.key a.held _ c.requires.at_lt_place_count.1 c.refused.ensures a.store a.report a.association s
+    refused-verdict t (place_in a.q.search) x a.q.key a.held _ c.requires.at_lt_place_count.1 c.refused.ensures a.store a.report a.association s
     (c.in-Err.ensures.some (λ y e. read_number t.registry s y (sym c.requires.reading_value.0 ∙ e)) x refl)
     (λ st rp g h. segment-read t st rp a.association s _ _ g h ∙ ap (after_reading t st rp a.association s) read)
