@@ -3,7 +3,9 @@
 
 ghost use Rattle.std.specs.Prelude.{if◌then◌else◌, ◌≡◌, true, ◌&&◌, ℕ, ◌+◌, ◌<◌, length, Some};
 ghost use Rattle.rules.specs.Summary.{number_at, row_of, unused_row, row_for, tally, seat, total_fits, fits, empty_summary};
-ghost use Rattle.summary.specs.Losses.{loss_in};
+ghost use Rattle.summary.specs.Losses.{loss_in, unless_full};
+
+use refusals::Refusal;
 
 // The row of an association. The mark is asked second: few rows have the name.
 // As it was: the summary is one array of 8 columns across the C interface, and number_at of rules counts in it.
@@ -96,16 +98,21 @@ pub fn seat(m: &mut [u64; rules::SUMMARY], row: usize, association: u16)
 }
 
 // A loss in a row, unless a total would become too large.
-fn lose_in(m: &mut [u64; rules::SUMMARY], row: usize, segments: u64, octets: u64) -> bool
+fn lose_in(
+    m: &mut [u64; rules::SUMMARY],
+    row: usize,
+    segments: u64,
+    octets: u64,
+) -> Result<(), Refusal>
     requires { row < 64 }
-    ensures value { result ≡ fits m.old (tally m.old 6 row segments octets) }
-    ensures m_after { m.new ≡ (if result then tally m.old 6 row segments octets else m.old) }
+    ensures value { result ≡ unless_full (fits m.old (tally m.old 6 row segments octets)) }
+    ensures m_after { m.new ≡ (if fits m.old (tally m.old 6 row segments octets) then tally m.old 6 row segments octets else m.old) }
 {
-    let fits = has_room(m, 6, row, segments, octets);
-    if fits {
-        add(m, 6, row, segments, octets);
+    if !has_room(m, 6, row, segments, octets) {
+        return Err(Refusal::TotalLarge);
     }
-    fits
+    add(m, 6, row, segments, octets);
+    Ok(())
 }
 
 // A loss is billed to an association, unless a total would become too large.
@@ -114,13 +121,13 @@ pub fn bill_loss(
     association: u16,
     segments: u64,
     octets: u64,
-) -> bool
-    ensures value { result ≡ fits m.old (loss_in m.old association segments octets) }
-    ensures m_after { m.new ≡ (if result then loss_in m.old association segments octets else m.old) }
+) -> Result<(), Refusal>
+    ensures value { result ≡ unless_full (fits m.old (loss_in m.old association segments octets)) }
+    ensures m_after { m.new ≡ (if fits m.old (loss_in m.old association segments octets) then loss_in m.old association segments octets else m.old) }
 {
     match row_of(m, association) {
         Some(row) => lose_in(m, row, segments, octets),
-        None => true,
+        None => Ok(()),
     }
 }
 

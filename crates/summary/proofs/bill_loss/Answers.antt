@@ -10,4 +10,4 @@ returns-in-Some c =
 pub returns-in-None : goal.returns-in-None
 returns-in-None c =
     let none = sym c.row_of.ensures.value ∙ c.in-None.is in
-    record { value = rw none (sym (fits-same c.args.m.now)); m_after = rw none }
+    record { value = rw (none, fits-same c.args.m.now); m_after = rw (none, fits-same c.args.m.now) }
