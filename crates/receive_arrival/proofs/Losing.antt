@@ -21,9 +21,7 @@ use Rattle.rules.specs.declared.Record.{Record}
 use Rattle.rules.specs.declared.Swept.{Swept}
 use Rattle.rules.specs.declared.Table.{Table}
 use Rattle.rules.proofs.Arrival.{sound-after, summary-after}
-use Rattle.receive_sweep.specs.Sweeping.{losses, swept_by}
-use Rattle.receive_sweep.specs.declared.Test.{Test}
-use Rattle.receive_sweep.specs.declared.Test.TheVariants.{Aged}
+use Rattle.receive_sweep.specs.Sweeping.{Test, Aged, losses, swept_by}
 use Rattle.receive_segment.specs.Arrival.{OfSegment}
 use Rattle.receive_arrival.specs.Arriving.{Allowed, beside_of}
 use Rattle.receive_arrival.proofs.Behind.{front, lent, unwritten, written}

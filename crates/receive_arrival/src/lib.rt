@@ -8,10 +8,10 @@ ghost use Rattle.rules.specs.Refusals.{first, unplaced};
 ghost use Rattle.rules.specs.Places.{first_from, is_at};
 ghost use Rattle.rules.specs.Receiving.{unreceived};
 ghost use Rattle.rules.specs.Promises.{OfArrival};
-ghost use Rattle.receive_sweep.specs.Sweeping.{test_of};
+ghost use Rattle.rules.specs.Sweep.{is_due};
 ghost use Rattle.receive_arrival.specs.Arriving.{area_checks, Allowed, beside_of};
 
-use receive_sweep::Test;
+use receive_sweep::Aged;
 use refusals::Refusal;
 use rules::{Decision, Received, Table};
 
@@ -65,7 +65,7 @@ fn pass(
 ) -> Received
     requires allowed { Allowed t.now m.old store.old report.old time }
     requires size { length t.now.places ≡ place_count }
-    requires places_value { is_at (first_from (test_of (Test.Aged time t.now.timer)) t.now.places 0) ≡ false }
+    requires places_value { is_at (first_from (is_due time t.now.timer) t.now.places 0) ≡ false }
     ensures { OfArrival t.now m.old store.old report.old time association s.now result m.new store.new report.new }
 {
     let next = Table { clock: time, ..*t };
@@ -93,16 +93,25 @@ fn lose(
     ensures { OfArrival t.now m.old store.old report.old time association s.now result m.new store.new report.new }
 {
     let timer = t.timer;
-    let which = Test::Aged { time, timer };
+    let which = Aged { time, timer };
     let mut trial = *m;
-    if !receive_clock::billed(&t.places, which, &mut trial) {
-        return refused(t, Refusal::TotalLarge);
+    if let Err(r) = receive_clock::billed(&t.places, &which, &mut trial) {
+        return refused(t, r);
     }
     let mut told = [0u8; rules::REPORT];
-    let w = receive_sweep::swept(*t, &mut told, time, which);
+    let w = receive_sweep::swept(*t, &mut told, time, &which);
     let past = usize::from(w.records) * rules::RECORD;
     let behind = &mut report[past..];
-    let own = receive_segment::segment(&w.table, true, true, &mut trial, store, behind, association, s);
+    let own = receive_segment::segment(
+        &w.table,
+        true,
+        true,
+        &mut trial,
+        store,
+        behind,
+        association,
+        s,
+    );
     // As it was: the answer's own number, as in pass.
     if own.refusal == 22 {
         return refused(t, Refusal::TotalLarge);
@@ -136,7 +145,7 @@ pub fn arrival(
         return receive_segment::segment(&t, is_sound, is_summed, m, store, report, association, s);
     }
     let timer = t.timer;
-    if receive_sweep::any_due(&t, Test::Aged { time, timer }) {
+    if receive_sweep::any_due(&t, &Aged { time, timer }) {
         return lose(&t, m, store, report, time, association, s);
     }
     pass(&t, m, store, report, time, association, s)

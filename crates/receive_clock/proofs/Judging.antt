@@ -3,7 +3,6 @@ use Rattle.std.specs.Prelude.{if◌then◌else◌}
 use Prim.Native.Nat.{ℕ, ◌-◌, ◌<◌, ◌≤◌, ◌^◌}
 use Rattle.std.proofs.lemmas.Bool.{lt-ltb, le-ltb}
 use borrow.Author.Tests.{eq-eqb, ne_eqb}
-use Rattle.receive_sweep.specs.declared.Test.{Test}
 use native.Mathlib.Omega.{arith}
 use mathlib.Core.Path.{◌≡◌, refl, ◌∙◌}
 use mathlib.Core.Bool.{Bool, true, false, not, ◌&&◌}
@@ -17,9 +16,8 @@ use Rattle.rules.specs.Sweep.{Sweeping, unswept, report_least, step_checks, cloc
 use Rattle.rules.specs.Summary.{Counted, counting, summary_sound, summary_checks, total_checks, sweep_sums, clock_with, release_with}
 use Rattle.rules.proofs.Refusals.{judged-append}
 use Rattle.rules.specs.declared.Table.{Table}
-use Rattle.receive_sweep.specs.Sweeping.{swept_by}
+use Rattle.receive_sweep.specs.Sweeping.{Test, Aged, Of, swept_by}
 use Rattle.receive_clock.specs.Clocking.{swept_at, swept_with}
-use Rattle.receive_sweep.specs.declared.Test.TheVariants.{Aged, Of}
 
 module _ (t : Table) (m report : List ℕ) {is_sound summed : Bool} (g : is_sound ≡ sound t) (h : summed ≡ summary_sound m t.places) {n : ℕ}
     (e : n ≡ first (1 when not (is_sound && summed) ∷ 3 when ltb (length report) report_least ∷ [])) where

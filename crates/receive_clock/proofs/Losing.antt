@@ -20,10 +20,9 @@ use Rattle.rules.proofs.Lists.{left}
 use Rattle.rules.proofs.Fitting.{fits-chain, fits-same, billed-grows, length-billed}
 use Rattle.summary.specs.Losses.{loss_in}
 use Rattle.summary.proofs.Losing.{bill-loss-in}
-use Rattle.receive_sweep.specs.Sweeping.{test_of, cause_of, losses, swept_by}
+use Rattle.receive_sweep.specs.Sweeping.{Test, test_of, cause_of, losses, swept_by}
 use Rattle.receive_sweep.proofs.Sweeping.{none-those}
 use Rattle.receive_clock.specs.Clocking.{swept_with, passed_at}
-use Rattle.receive_sweep.specs.declared.Test.{Test}
 
 billed-append : (m : List ℕ) (xs ys : List Record) → billed m (xs ++ ys) ≡ billed (billed m xs) ys
 billed-append m [] ys = refl

@@ -9,8 +9,7 @@ use Rattle.rules.specs.Sweep.{Sweeping, unswept, sweep_checks, step_checks}
 use Rattle.rules.specs.Summary.{Counted, counting, total_checks, sweep_sums, sweep_with}
 use Rattle.rules.specs.declared.Swept.{Swept}
 use Rattle.rules.specs.declared.Table.{Table}
-use Rattle.receive_sweep.specs.declared.Test.{Test}
-use Rattle.receive_sweep.specs.Sweeping.{test_of, swept_by}
+use Rattle.receive_sweep.specs.Sweeping.{Test, test_of, swept_by}
 
 -- at a time: what the clock and the release have in common
 unfoldable pub swept_at : Test → ℕ → Table → List ℕ → List ℕ → Counted Sweeping

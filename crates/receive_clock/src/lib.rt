@@ -8,9 +8,10 @@ ghost use Rattle.rules.specs.Sweep.{unswept, report_least};
 ghost use Rattle.rules.specs.Summary.{billed, fits};
 ghost use Rattle.rules.specs.Promises.{OfClock, OfRelease};
 ghost use Rattle.receive_sweep.specs.Sweeping.{losses};
+ghost use Rattle.summary.specs.Losses.{unless_full};
 ghost use Rattle.receive_clock.specs.Clocking.{swept_at, passed_at, Billed};
 
-use receive_sweep::Test;
+use receive_sweep::{Aged, Due, Of};
 use refusals::Refusal;
 use rules::{Place, Swept, Table};
 
@@ -38,11 +39,11 @@ fn passed(t: &Table, time: u32) -> Swept
 }
 
 // Bills what a sweep loses of a place, unless a total would become too large.
-fn bill_due(m: &mut [u64; rules::SUMMARY], which: Test, p: &Place) -> bool
-    ensures value { result ≡ fits m.old (billed m.old (losses which (p.now ∷ []))) }
-    ensures m_after { result ≡ true → m.new ≡ billed m.old (losses which (p.now ∷ [])) }
+fn bill_due<D: Due>(m: &mut [u64; rules::SUMMARY], which: &D, p: &Place) -> Result<(), Refusal>
+    ensures value { result ≡ unless_full (fits m.old (billed m.old (losses (D.test which.now) (p.now ∷ [])))) }
+    ensures m_after { result ≡ Ok tt → m.new ≡ billed m.old (losses (D.test which.now) (p.now ∷ [])) }
 {
-    if receive_sweep::is_due(which, p) {
+    if which.is_due(p) {
         summary::bill_loss(
             m,
             p.key.association,
@@ -50,21 +51,23 @@ fn bill_due(m: &mut [u64; rules::SUMMARY], which: Test, p: &Place) -> bool
             u64::from(p.octets),
         )
     } else {
-        true
+        Ok(())
     }
 }
 
 // Bills all that a sweep loses, each on top of those before it, so that several of one association are judged by their sum.
-pub fn billed(places: &[Place; 16], which: Test, m: &mut [u64; rules::SUMMARY]) -> bool
-    ensures value { result ≡ fits m.old (billed m.old (losses which places.now)) }
-    ensures m_after { result ≡ true → m.new ≡ billed m.old (losses which places.now) }
+pub fn billed<D: Due>(
+    places: &[Place; 16],
+    which: &D,
+    m: &mut [u64; rules::SUMMARY],
+) -> Result<(), Refusal>
+    ensures value { result ≡ unless_full (fits m.old (billed m.old (losses (D.test which.now) places.now))) }
+    ensures m_after { result ≡ Ok tt → m.new ≡ billed m.old (losses (D.test which.now) places.now) }
 {
     for p in places {
-        if !bill_due(m, which, p) {
-            return false;
-        }
+        bill_due(m, which, p)?;
     }
-    true
+    Ok(())
 }
 
 // Whether the table with its summary and the report area will do for a sweep; else the first refusal.
@@ -82,14 +85,14 @@ fn judge(sound: bool, report: &[u8]) -> Result<(), Refusal>
 
 // Judges a sweep and bills what it loses, and answers whether it loses anything; or refuses, and bills nothing. Whether something is due is asked first, so that no call between it and
 // the table's arrival makes the compiler copy the table.
-fn bill(
+fn bill<D: Due>(
     t: &Table,
     m: &mut [u64; rules::SUMMARY],
     report: &[u8],
     time: u32,
-    which: Test,
+    which: &D,
 ) -> Result<bool, Refusal>
-    ensures { Billed which time t.now m.old report.now result m.new }
+    ensures { Billed (D.test which.now) time t.now m.old report.now result m.new }
 {
     let due = receive_sweep::any_due(t, which);
     let idle = sound::look_idle(t);
@@ -104,24 +107,22 @@ fn bill(
     }
     // A copy: a loss that does not fit may come after others that do.
     let mut trial = *m;
-    if !billed(&t.places, which, &mut trial) {
-        return Err(Refusal::TotalLarge);
-    }
+    billed(&t.places, which, &mut trial)?;
     *m = trial;
     Ok(true)
 }
 
 // A sweep at a time: what both calls have in common. A release is at the table's own time, so its step is none.
-fn sweep(
+fn sweep<D: Due>(
     t: &Table,
     m: &mut [u64; rules::SUMMARY],
     report: &mut [u8],
     time: u32,
-    which: Test,
+    which: &D,
 ) -> Swept
-    ensures value { result ≡ (swept_at which time t.now m.old report.old).call.answer }
-    ensures m_after { m.new ≡ (swept_at which time t.now m.old report.old).summary }
-    ensures report_after { report.new ≡ (swept_at which time t.now m.old report.old).call.report }
+    ensures value { result ≡ (swept_at (D.test which.now) time t.now m.old report.old).call.answer }
+    ensures m_after { m.new ≡ (swept_at (D.test which.now) time t.now m.old report.old).summary }
+    ensures report_after { report.new ≡ (swept_at (D.test which.now) time t.now m.old report.old).call.report }
 {
     match bill(t, m, report, time, which) {
         Err(r) => refused(t, r),
@@ -136,7 +137,7 @@ pub fn clock(t: Table, m: &mut [u64; rules::SUMMARY], report: &mut [u8], time: u
     ensures { OfClock t m.old report.old time result m.new report.new }
 {
     let timer = t.timer;
-    sweep(&t, m, report, time, Test::Aged { time, timer })
+    sweep(&t, m, report, time, &Aged { time, timer })
 }
 
 // Loses every sequence of an association.
@@ -148,5 +149,5 @@ pub fn release(
 ) -> Swept
     ensures { OfRelease t m.old report.old association result m.new report.new }
 {
-    sweep(&t, m, report, t.clock, Test::Of(association))
+    sweep(&t, m, report, t.clock, &Of(association))
 }

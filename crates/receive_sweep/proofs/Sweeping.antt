@@ -21,8 +21,7 @@ use Rattle.rules.proofs.Lists.{left}
 use Rattle.rules.specs.declared.Place.{Place}
 use Rattle.rules.specs.declared.Swept.{Swept}
 use Rattle.rules.specs.declared.Table.{Table}
-use Rattle.receive_sweep.specs.Sweeping.{test_of, cause_of, losses, swept_by}
-use Rattle.receive_sweep.specs.declared.Test.{Test}
+use Rattle.receive_sweep.specs.Sweeping.{Test, test_of, cause_of, losses, swept_by}
 
 -- where no place passes a test
 pub none-those : (test : Place → Bool) (ps : List Place) (i : ℕ) → is_at (first_from test ps i) ≡ false → (those test ps ≡ []) × (map (freed_by test) ps ≡ ps)

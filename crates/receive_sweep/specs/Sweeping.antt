@@ -5,8 +5,11 @@ use Rattle.rules.specs.Sweep.{Sweeping, loss_of, is_due, is_of, sweep}
 use Rattle.rules.specs.declared.Place.{Place}
 use Rattle.rules.specs.declared.Record.{Record}
 use Rattle.rules.specs.declared.Table.{Table}
-use Rattle.receive_sweep.specs.declared.Test.{Test}
-use Rattle.receive_sweep.specs.declared.Test.TheVariants.{Aged, Of}
+
+-- which sequences a sweep loses: those too old at a time, or those of an association
+pub data Test : Type 0 where
+  Aged : ℕ → ℕ → Test
+  Of : ℕ → Test
 
 abbrev pub test_of : Test → Place → Bool
 test_of (Aged time timer) = is_due time timer

@@ -1,6 +1,5 @@
 use mathlib.Core.Path.{◌≡◌, ◌∙◌}
 use lib.ListN.{length}
-use native.Mathlib.Omega.{arith}
 use Rattle.rules.specs.Numbers.{place_count}
 use Rattle.rules.specs.Sweep.{is_due}
 use Rattle.receive_sweep.proofs.Sweeping.{none-those}

@@ -1,23 +1,25 @@
-use mathlib.Core.Path.{refl, sym, ◌∙◌}
-use mathlib.Core.Bool.{true≢false}
+use mathlib.Core.Path.{refl}
 use native.Mathlib.Omega.{arith}
+use Rattle.std.proofs.lemmas.Result.{err_from_is_err_and}
+use Rattle.summary.proofs.Losing.{fits-ok, full-err}
 use Rattle.receive_clock.proofs.Losing.{turn-fails, turn-fits, all_fit, all-billed}
 use Rattle.receive_clock.proofs.billed.Goals as goal
 
 pub loop-p-init : goal.loop-p-init
-loop-p-init c = record { size = c.told-places; inside = omega arith; long = c.told-m; sums = refl; fit = refl }
+loop-p-init g c = record { size = c.told-places; inside = omega arith; long = c.told-m; sums = refl; fit = refl }
 
-pub returns-then-not-bill_due : goal.returns-then-not-bill_due
-returns-then-not-bill_due c =
-    let no = c.if-not-bill_due.true in
-    record { value = turn-fails c.loop-p.invariant c.loop-p-test.true (sym c.bill_due.ensures.value ∙ no); m_after = λ e. absurd (true≢false (sym e)) }
+pub returns-in_err-bill_due : goal.returns-in_err-bill_due
+returns-in_err-bill_due g c =
+    let p = err_from_is_err_and c.from_residual.result c.from_residual.ensures.1 in
+    let full = full-err _ _ c.in_err-bill_due.ensures.value in
+    record { value = rw (p.1, p.2, full.1, ← turn-fails c.loop-p.invariant c.loop-p-test.true full.0); m_after = λ e. let err = rw p.1 at e in grind arith }
 
 pub loop-p-preserved : goal.loop-p-preserved
-loop-p-preserved c =
-    let yes = c.if-not-bill_due.false in
-    turn-fits c.loop-p.invariant c.loop-p-test.true (sym c.bill_due.ensures.value ∙ yes) _ (c.bill_due.ensures.m_after yes)
+loop-p-preserved g c =
+    let done = c.in_ok-bill_due.ensures in
+    turn-fits c.loop-p.invariant c.loop-p-test.true (fits-ok _ done.value) _ (done.m_after refl)
 
 pub returns : goal.returns
-returns c =
+returns g c =
     let l = c.loop-p in
-    record { value = all_fit l.invariant c.loop-p-test.false; m_after = λ e. all-billed l.invariant c.loop-p-test.false }
+    record { value = rw (← all_fit l.invariant c.loop-p-test.false); m_after = λ e. all-billed l.invariant c.loop-p-test.false }

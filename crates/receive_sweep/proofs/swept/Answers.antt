@@ -6,7 +6,7 @@ use Rattle.receive_sweep.specs.Sweeping.{losses}
 use Rattle.receive_sweep.proofs.swept.Goals as goal
 
 pub loop-p-preserved : goal.loop-p-preserved
-loop-p-preserved c =
+loop-p-preserved g c =
     let l = c.loop-p in
     elim c.if-is_due.branch [
       | then-is_due w ↦
@@ -16,6 +16,6 @@ loop-p-preserved c =
 
 pub returns : goal.returns
 unfolding sweep losses
-returns c =
+returns g c =
     let l = c.loop-p in
     record { value = all-answered c.args.t l.invariant c.loop-p-test.false _; report_after = all-reported l.invariant c.loop-p-test.false; records_le_place_count = (omega arith, all-sized l.invariant c.loop-p-test.false) }
