@@ -101,7 +101,16 @@ fn lose(
     let w = receive_sweep::swept(*t, &mut told, time, which);
     let past = usize::from(w.records) * rules::RECORD;
     let behind = &mut report[past..];
-    let own = receive_segment::segment(&w.table, true, true, &mut trial, store, behind, association, s);
+    let own = receive_segment::segment(
+        &w.table,
+        true,
+        true,
+        &mut trial,
+        store,
+        behind,
+        association,
+        s,
+    );
     // As it was: the answer's own number, as in pass.
     if own.refusal == 22 {
         return refused(t, Refusal::TotalLarge);
