@@ -9,12 +9,8 @@ use native.Mathlib.Numerals.{add-one}
 use borrow.Author.Tests.{eqb-true, eqb-false, leb-true}
 use lib.ListN.{length}
 use Rattle.rules.specs.Summary.{every_below, number_at, is_used}
-use Rattle.sound_rows.specs.Listing.{of_those, back}
+use Rattle.sound_rows.specs.Listing.{of_those}
 use Rattle.sound_rows.proofs.Sound.{mark_sound}
-
-pub back-length : (l : List ℕ) (n : ℕ) → length (back l n) ≡ n
-back-length l zero = refl
-back-length l (suc n) = ap suc (back-length l n)
 
 -- a mark that is sound is what it adds
 pub count-more : (m : List ℕ) (value : ℕ → ℕ) (i used : ℕ) → (every_below i (mark_sound m) ≡ true → used ≡ length (of_those (is_used m) value i))

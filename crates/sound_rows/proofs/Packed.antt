@@ -1,19 +1,16 @@
 -- The associations of used rows as a list: what it tells of the rows, and how it grows at the front of an array.
 use Rattle.std.specs.Prelude.{if◌then◌else◌, Option, Some, None}
-use Prim.Native.Nat.{ℕ, zero, suc, ◌+◌, ◌<◌, ◌≤◌}
+use Prim.Native.Nat.{ℕ, zero, suc, ◌<◌}
 use mathlib.Core.Path.{◌≡◌, refl, sym, ap, ◌∙◌}
 use mathlib.Core.Bool.{Bool, true, false, not, ◌&&◌, and-false, and-eq-true_iff}
 use mathlib.Core.List.{List, [], ◌∷◌}
 use native.Mathlib.Omega.{arith}
-use native.Mathlib.Numerals.{add-one}
-use borrow.Author.Tests.{eqb-true, eqb-false, eq-eqb, leb-true, ltb-true}
-use lib.Dec.{eqb, ltb}
-use lib.ListN.{length, get_or, set}
-use lib.Seq.{get_or-set_same, get_or-set_other}
+use borrow.Author.Tests.{leb-true}
+use lib.Dec.{eqb}
 use Rattle.rules.specs.General.{every, every_two}
 use Rattle.rules.specs.Places.{is_at}
 use Rattle.rules.specs.Summary.{every_below, every_pair, first_below, or_else, row_count, number_at, is_used, is_for, row_of, row_sound, rows_apart}
-use Rattle.sound_rows.specs.Listing.{is_other, of_those, back, low_of, name_fits, listed_in, has_row}
+use Rattle.sound_rows.specs.Listing.{is_other, of_those, low_of, name_fits, listed_in, has_row}
 use Rattle.rules.proofs.Below.{below_at}
 use Rattle.sound_rows.proofs.Sound.{mark_sound, first_of, row_is}
 
@@ -90,28 +87,3 @@ module _ (m : List ℕ) (sound : every_below row_count (row_sound m) ≡ true) w
       go : (b : Bool) → (not (not b) && every (has_row m) names) ≡ (b && every (has_row m) names)
       go true = refl
       go false = refl
-
--- a store from n on leaves the first n
-back-set : (l : List ℕ) (i x n : ℕ) → n ≤ i → back (set l i x) n ≡ back l n
-back-set l i x zero h = refl
-back-set l i x (suc n) h = rw (get_or-set_other l i n x 0 (λ e. omega arith), back-set l i x n (omega arith))
-
-pub back_more : (l : List ℕ) (n x : ℕ) → n < length l → back (set l n x) (n + 1) ≡ x ∷ back l n
-back_more l n x h = rw (add-one n, get_or-set_same l n x 0 h, back-set l n x n (omega arith))
-
--- one of the first n is one of them
-back-has : (l : List ℕ) (x n i : ℕ) → i < n → get_or l i 0 ≡ x → every (is_other x) (back l n) ≡ false
-back-has l x zero i h e = absurd (omega arith)
-back-has l x (suc n) i h e = go (eqb i n) refl (back-has l x n i)
-  where
-    go : (b : Bool) → eqb i n ≡ b → (i < n → get_or l i 0 ≡ x → every (is_other x) (back l n) ≡ false) → every (is_other x) (back l (suc n)) ≡ false
-    go true s more =
-        let same : i ≡ n = eqb-true i n s in
-        let here : get_or l n 0 ≡ x = rw same at e in
-        rw (eq-eqb (get_or l n 0) x here)
-    go false s more = rw (more (omega (arith, eqb-false i n s)) e) (and-false (is_other x (get_or l n 0)))
-
-pub back_at : (l : List ℕ) (x n i : ℕ) → (ltb i n && eqb (get_or l i 0) x) ≡ true → every (is_other x) (back l n) ≡ false
-back_at l x n i e =
-    let both = (and-eq-true_iff (ltb i n) (eqb (get_or l i 0) x)).0 e in
-    back-has l x n i (ltb-true i n both.0) (eqb-true (get_or l i 0) x both.1)

@@ -1,5 +1,5 @@
--- The associations of used rows as a list, packed at the front of an array: what the code tells apart and looks up.
-use Rattle.std.specs.Prelude.{if◌then◌else◌, ℕ, zero, suc, ◌<◌, ◌≤◌, ◌%◌, ◌≡◌, Bool, true, not, ◌&&◌, List, [], ◌∷◌, eqb, leb, get_or}
+-- The associations of used rows as a list: what the code tells apart and looks up.
+use Rattle.std.specs.Prelude.{if◌then◌else◌, ℕ, zero, suc, ◌<◌, ◌≤◌, ◌%◌, ◌≡◌, Bool, true, not, ◌&&◌, List, [], ◌∷◌, eqb, leb}
 use Rattle.rules.specs.General.{every}
 use Rattle.rules.specs.Places.{is_at}
 use Rattle.rules.specs.Summary.{every_below, every_pair, row_count, number_at, is_unused, is_bare, row_sound, rows_apart, row_of}
@@ -12,11 +12,6 @@ is_other x y = not (eqb y x)
 abbrev pub of_those : (ℕ → Bool) → (ℕ → ℕ) → ℕ → List ℕ
 of_those chosen value zero = []
 of_those chosen value (suc n) = if chosen n then value n ∷ of_those chosen value n else of_those chosen value n
-
--- the first n elements, the last of them first
-abbrev pub back : List ℕ → ℕ → List ℕ
-back l zero = []
-back l (suc n) = get_or l n 0 ∷ back l n
 
 -- the low half of a row's association, which in a sound row is all of it
 abbrev pub low_of : List ℕ → ℕ → ℕ

@@ -1,11 +1,13 @@
 // Whether a summary, which its caller lends, is sound beside open places, of which their associations are told. The marks are at 0 + i, as the rules have it.
 #![tactic(auto)]
 
-ghost use Rattle.std.specs.Prelude.{if◌then◌else◌, ℕ, ◌≡◌, true, not, ◌&&◌, ◌||◌, ◌+◌, ◌<◌, ◌≤◌, ◌%◌, eqb, leb, length, Some};
+ghost use Rattle.std.specs.Prelude.{if◌then◌else◌, ℕ, ◌≡◌, true, not, ◌&&◌, ◌||◌, ◌+◌, ◌<◌, ◌≤◌, ◌%◌, eqb, leb, length, Some, [], ◌∷◌, ◌++◌, get_or, set};
 ghost use Rattle.rules.specs.General.{every, every_two};
 ghost use Rattle.rules.specs.Places.{is_at};
 ghost use Rattle.rules.specs.Summary.{every_below, row_count, is_used, is_bare, row_sound};
-ghost use Rattle.sound_rows.specs.Listing.{is_other, of_those, back, low_of, name_fits, EmptyFrom, listed_in, sound_beside};
+ghost use Rattle.sound_rows.specs.Listing.{is_other, of_those, low_of, name_fits, EmptyFrom, listed_in, sound_beside};
+
+use arrayvec::ArrayVec;
 
 // All numbers of a row but the mark, in one: 0 where each is.
 fn rest_of(m: &[u64; rules::SUMMARY], i: usize) -> u64
@@ -104,26 +106,6 @@ fn octet_of(x: u16) -> usize
     (x % 256) as usize
 }
 
-// Whether a number is none of the first n. With no way out the loop takes eight at a time.
-fn is_new(list: &[u16; 64], n: usize, x: u16) -> bool
-    requires { n ≤ 64 }
-    ensures { result ≡ every (is_other x) (back list.now n) }
-{
-    let mut new = true;
-    for i in 0..n {
-        new = (list[i] != x) & new;
-    }
-    new
-}
-
-// The same, where there is a hint; where there is none the number is new.
-fn is_new_if(hint: u8, list: &[u16; 64], n: usize, x: u16) -> bool
-    requires { n ≤ 64 }
-    ensures { result ≡ (if eqb hint 0 then true else every (is_other x) (back list.now n)) }
-{
-    hint == 0 || is_new(list, n, x)
-}
-
 // A hint: a number's index in the list, and never 0.
 fn hint_of(n: usize) -> u8
     requires { n < 64 }
@@ -132,23 +114,64 @@ fn hint_of(n: usize) -> u8
     (64 + n) as u8
 }
 
-// Whether a number is one of the first n: where the hint says, or elsewhere.
-fn is_listed(hint: u8, list: &[u16; 64], n: usize, x: u16) -> bool
-    requires { n ≤ 64 }
-    ensures { result ≡ not (every (is_other x) (back list.now n)) }
-{
-    let i = usize::from(hint % 64);
-    ((i < n) & (list[i] == x)) || !is_new(list, n, x)
+// The associations of used rows that were met, and hints by the low octet: where there is none, no association of the list has that octet; else the last such one is mostly where the
+// hint says.
+#[derive(Drop)]
+struct Listed {
+    names: ArrayVec<u16, 64>,
+    hints: [u8; 256],
 }
 
-// Whether each of some associations is listed.
-fn all_listed(list: &[u16; 64], hints: &[u8; 256], used: usize, names: &[u16]) -> bool
-    requires { used ≤ 64 }
-    ensures { result ≡ every (listed_in (back list.now used)) names.now }
-{
-    names
-        .iter()
-        .all(|x| is_listed(hints[octet_of(*x)], list, used, *x))
+impl Listed {
+    // Whether a number is none of the list. With no way out the loop takes eight at a time.
+    #[inline]
+    fn lacks(&self, x: u16) -> bool
+        ensures { result ≡ every (is_other x) self.now.names.items }
+    {
+        let names = self.names.as_slice();
+        let mut new = true;
+        for y in names {
+            new &= *y != x;
+        }
+        new
+    }
+
+    // The same; the list is looked at only where there is a hint.
+    #[inline]
+    fn is_new(&self, x: u16) -> bool
+        ensures { result ≡ (if eqb (get_or self.now.hints (x % 256) 0) 0 then true else every (is_other x) self.now.names.items) }
+    {
+        self.hints[octet_of(x)] == 0 || self.lacks(x)
+    }
+
+    // Whether a number is one of the list: where the hint says, or elsewhere.
+    #[inline]
+    fn has(&self, x: u16) -> bool
+        ensures { result ≡ listed_in self.now.names.items x }
+    {
+        let names = self.names.as_slice();
+        let i = usize::from(self.hints[octet_of(x)] % 64);
+        (i < names.len() && names[i] == x) || !self.lacks(x)
+    }
+
+    // Whether each of some associations is one of the list.
+    #[inline]
+    fn has_all(&self, names: &[u16]) -> bool
+        ensures { result ≡ every (listed_in self.now.names.items) names.now }
+    {
+        names.iter().all(|x| self.has(*x))
+    }
+
+    // One more.
+    #[inline]
+    fn push(&mut self, x: u16)
+        requires { length self.old.names.items < 64 }
+        ensures names { self.new.names.items ≡ self.old.names.items ++ x ∷ [] }
+        ensures hints { (v : ℕ) × ((v ≡ 0 → ⊥) × (self.new.hints ≡ set self.old.hints (x % 256) v)) }
+    {
+        self.hints[octet_of(x)] = hint_of(self.names.len());
+        self.names.push(x);
+    }
 }
 
 // Of rows that are sound: whether no two are used for one association and each of some associations has one. Those of used rows are listed in one go, which ends with the last of
@@ -157,26 +180,24 @@ fn are_told(m: &[u64; rules::SUMMARY], used: usize, names: &[u16]) -> bool
     requires { used ≡ length (of_those (is_used m.now) (low_of m.now) row_count) }
     ensures { result ≡ (every_two is_other (of_those (is_used m.now) (low_of m.now) row_count) && every (listed_in (of_those (is_used m.now) (low_of m.now) row_count)) names.now) }
 {
-    let mut list = [0u16; 64];
-    let mut hints = [0u8; 256];
+    let mut listed = Listed {
+        names: ArrayVec::new(),
+        hints: [0; 256],
+    };
     let mut apart = true;
-    let mut told = 0;
     let mut i = 0;
-    // As it was: a while over what is told: a for over the rows would need a way out once all are told, and another end for rows that run out, which they never do.
-    while told < used {
+    // As it was: a while over what is listed: a for over the rows would need a way out once all are, and another end for rows that run out, which they never do.
+    while listed.names.len() < used {
         if m[0 + i] != 1 {
             i += 1;
             continue;
         }
         let x = low(m[64 + i]);
-        let octet = octet_of(x);
-        apart = is_new_if(hints[octet], &list, told, x) & apart;
-        hints[octet] = hint_of(told);
-        list[told] = x;
-        told += 1;
+        apart = listed.is_new(x) & apart;
+        listed.push(x);
         i += 1;
     }
-    apart & all_listed(&list, &hints, told, names)
+    apart & listed.has_all(names)
 }
 
 // Whether a summary is sound beside open places of some associations: any bits may be handed over.
