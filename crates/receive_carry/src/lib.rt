@@ -90,7 +90,10 @@ impl Judged {
     {
         Verdict {
             told: Some(told(rules::LOST, cause, &self.longer())),
-            ..self.taken(table::free_place(), Decision::Lost(cause, Some(self.search.at())))
+            ..self.taken(
+                table::free_place(),
+                Decision::Lost(cause, Some(self.search.at())),
+            )
         }
     }
 

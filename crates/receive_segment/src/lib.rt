@@ -51,7 +51,13 @@ fn arrive(t: &Table, s: &[u8], f: Fields, q: Sought, held: Place) -> Verdict
     ensures some { (x : Fault) → result.refused ≡ Some x → x.number ≡ 0 → ⊥ }
 {
     let n = param_read::tail(s, f.information).len();
-    let line = receive_lines::line_of(q.search.is_found(), held.remaining, held.octets, f.heading, n);
+    let line = receive_lines::line_of(
+        q.search.is_found(),
+        held.remaining,
+        held.octets,
+        f.heading,
+        n,
+    );
     let full = receive_lines::starts(line) & q.search.is_nowhere();
     if full {
         return refused(unplaced(Refusal::NoPlaceFree), held);
