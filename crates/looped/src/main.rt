@@ -63,7 +63,9 @@ fn looped(rt: &HostRuntime, data: &[u8]) -> Result<(), Told> {
 // Reads all there is, and loops it.
 fn run(rt: &HostRuntime) -> Result<(), Told> {
     let mut data = [0; 2049];
-    let n = streams::fill(rt, &mut rt.stdin(), b"looped: cannot read", &mut data)?;
+    let n = streams::fill(rt, &mut rt.stdin(), b"looped: cannot read", &mut data).map_err(
+        |_| Told,
+    )?;
     looped(rt, &data[..n])
 }
 

@@ -4,7 +4,7 @@
 // Each function tells a failure itself. `what` is how the line begins, as 'replay: cannot read'.
 #![tactic(auto)]
 
-ghost use Rattle.std.specs.Prelude.{◌≡◌, ℕ, ◌<◌, ◌≤◌, IfOk, IsOk, OnErr, OnOk, ltb, length, take, drop};
+ghost use Rattle.std.specs.Prelude.{◌≡◌, ℕ, ◌<◌, ◌≤◌, IfErr, IfOk, IsOk, OnErr, OnOk, ltb, length, take, drop};
 ghost use Rattle.std.specs.Io.{ReadsAtMost, WritesAtMost};
 ghost use Rattle.std.specs.Io.KnownBytes.{Appends, Consumes, IsAtEnd, Keeps, ReadConsumes, WriteAppends};
 
@@ -17,6 +17,12 @@ const TRIES: u64 = 1000;
 // A failure, which was told on standard error.
 #[derive(Clone, Copy, Drop)]
 pub struct Told;
+
+// A failure in the midst of filling an area, which was told on standard error: so many octets were read before it.
+#[derive(Clone, Copy, Drop)]
+pub struct Unfilled {
+    pub count: usize,
+}
 
 // One read.
 // As it was: beside write_once, since one function over a closure would have to follow the closure's states through a chain of interrupted calls in its contract, which is longer than this loop.
@@ -85,22 +91,24 @@ pub fn read<R: Read>(
     read_once(source, area).map_err(|e| fail(rt, what, e))
 }
 
-// Reads until the area is full or the input ends. Where a read fails, it is told; what was read before it stands at the start of the area, which is not full.
+// Reads until the area is full or the input ends. Where a read fails, it is told; what was read before it is counted, and stands at the start of the area, which is not full.
 pub fn fill<R: Read>(
     rt: &HostRuntime,
     source: &mut R,
     what: &[u8],
     area: &mut [u8],
-) -> Result<usize, Told>
+) -> Result<usize, Unfilled>
     ensures prefix_len { ReadsAtMost result area.new }
     ensures bytes { IfOk result (λ n. Consumes (R.remaining source.old) (R.remaining source.new) (take n area.new)) }
     ensures ended { IfOk result (λ n. n < length area.new → IsAtEnd (R.remaining source.new)) }
-    ensures failed { OnErr result ((n : ℕ) × (n < length area.new) × Consumes (R.remaining source.old) (R.remaining source.new) (take n area.new)) }
+    ensures failed { IfErr result (λ e. (e.count < length area.new) × Consumes (R.remaining source.old) (R.remaining source.new) (take e.count area.new)) }
 {
     // As it was: an index beside the area; by a slice that shrinks from turn to turn it was tried, and nothing ties what the area holds in the end to the parts that were read.
     let mut done = 0;
     while done < area.len() {
-        let n = read(rt, source, what, &mut area[done..])?;
+        let Ok(n) = read(rt, source, what, &mut area[done..]) else {
+            return Err(Unfilled { count: done });
+        };
         if n == 0 {
             return Ok(done);
         }

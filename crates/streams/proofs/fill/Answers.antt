@@ -18,4 +18,4 @@ pub loop-done-preserved : goal.loop-done-preserved
 loop-done-preserved g c =
     let l = c.loop-done in
     let within = l.invariant.1 in
-    (search rules, search rules, subst (Consumes _ _) (filled l.done _ c.in_ok-n.n l.area c.read.new.area within c.in_ok-n.ensures.prefix_len.0) (Consumes-trans _ _ _ _ _ l.invariant.2 c.in_ok-n.ensures.bytes.0))
+    (search rules, search rules, subst (Consumes _ _) (filled l.done _ c.in-Ok.n l.area c.read.new.area within c.in-Ok.ensures.prefix_len.0) (Consumes-trans _ _ _ _ _ l.invariant.2 c.in-Ok.ensures.bytes.0))
