@@ -87,12 +87,12 @@ impl<W: Watcher> Job<'_, W> {
             &areas.input[..have],
             &mut areas.out,
         );
+        s.replay = t.replay;
         self.print(&areas.out[..t.written])?;
         if t.ended {
             return Err(Over);
         }
         areas.input.copy_within(t.used..have, 0);
-        s.replay = t.replay;
         s.events = t.events;
         s.have -= t.used;
         if t.used == 0 {
@@ -102,7 +102,7 @@ impl<W: Watcher> Job<'_, W> {
     }
 }
 
-// All of it: the session as it ended. unread and unwritten are how the lines begin that tell of a failure.
+// All of it: the replay as it ended, of which nothing is left to use. unread and unwritten are how the lines begin that tell of a failure.
 pub fn run<W: Watcher>(rt: &HostRuntime, who: &W, unread: &[u8], unwritten: &[u8]) -> Session
     ensures { result.have ≤ 65536 }
 {
@@ -127,7 +127,11 @@ pub fn run<W: Watcher>(rt: &HostRuntime, who: &W, unread: &[u8], unwritten: &[u8
     // every loop has to have a number that falls: 2^64 blocks are more than any input has
     for _ in 0..u64::MAX {
         if job.step(&mut s, &mut areas).is_err() {
-            break;
+            return Session {
+                replay: s.replay,
+                events: 0,
+                have: 0,
+            };
         }
     }
     s
