@@ -6,12 +6,14 @@ ghost use Rattle.octets.specs.Splice.{splice};
 ghost use Rattle.octets.specs.Number.{number, big_endian};
 
 // Writes src at the front of dst, as far as dst reaches.
-#[tactic(auto, using(crate::proofs::Splice::splice_front))]
+// As it was: octet by octet, since copy_from_slice becomes a call of memmove, which the library for C then needs from outside.
 pub fn put(dst: &mut [u8], src: &[u8])
     ensures { dst.new ≡ splice dst.old 0 src.now }
 {
     let n = dst.len().min(src.len());
-    dst[..n].copy_from_slice(&src[..n]);
+    for i in 0..n {
+        dst[i] = src[i];
+    }
 }
 
 // Writes src over dst from at on, as far as dst reaches.

@@ -86,6 +86,8 @@ fn put_loss<D: Due>(report: &mut [u8], n: u8, which: &D, p: &Place)
 }
 
 // Loses what is due of a table, in place order, and sets its clock. What is not due is not touched. All records have one length.
+// Inlined, since as a call its answer, with a table in it, is cleared and copied by callers that lose nothing.
+#[inline(always)]
 pub fn swept<D: Due>(t: Table, report: &mut [u8], time: u32, which: &D) -> Swept
     ensures value { result ≡ (swept_by (D.test which.now) time t report.old).answer }
     ensures report_after { report.new ≡ (swept_by (D.test which.now) time t report.old).report }
