@@ -61,14 +61,11 @@ fn all_usable(registry: &[Entry; 8]) -> bool
         .fold(true, |usable, e| usable & (is_unused(*e) | is_entry(*e)))
 }
 
-// Whether no context but 0 stands twice.
+// Whether no context but 0 stands twice. By `||`, so that an unused entry is compared with none.
 fn contexts_differ(registry: &[Entry; 8]) -> bool
     ensures { result ≡ every_two contexts_apart registry.now }
 {
-    every_two(
-        registry,
-        |d, e| (d.context.0 == 0) | (d.context != e.context),
-    )
+    every_two(registry, |d, e| d.context.0 == 0 || d.context != e.context)
 }
 
 // Whether the registry is sound. Where every entry is usable, those with context 0 are the unused ones.

@@ -36,7 +36,7 @@ fn open_sound(t: &Table) -> bool
     ensures { result ≡ open_part t.now }
 {
     let seen = sound_open::look_over(&t.places, &t.registry, t.timer, t.clock);
-    if all_differ(seen.digests.as_slice()) {
+    if all_differ(&seen.digests[..seen.open]) {
         seen.sound
     } else {
         seen.sound & every_two(&t.places, are_apart)
@@ -98,7 +98,7 @@ pub struct Soundness {
     pub summary: bool,
 }
 
-// Both in one call, for which the table is copied once more.
+// Both in one call.
 pub fn are_sound(t: &Table, m: &[u64; rules::SUMMARY]) -> Soundness
     ensures { (result.table ≡ sound t.now) × (result.summary ≡ summary_sound m.now t.now.places) }
 {

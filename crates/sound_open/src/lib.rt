@@ -1,7 +1,7 @@
 // Whether the open places are sound, and their digests.
 #![tactic(auto)]
 
-ghost use Rattle.std.specs.Prelude.{◌≡◌, [], ◌∷◌, map, ◌-◌, ◌*◌, ◌≤◌, drop};
+ghost use Rattle.std.specs.Prelude.{◌≡◌, [], ◌∷◌, map, ◌-◌, ◌*◌, ◌≤◌, take, drop};
 ghost use Rattle.rules.specs.General.{every, those};
 ghost use Rattle.rules.specs.Places.{is_open};
 ghost use Rattle.rules.specs.Soundness.{is_zero, address_sound, open_sound};
@@ -10,7 +10,6 @@ ghost use Rattle.sound_open.specs.Digest.{head_of, digest};
 ghost use Rattle.sound_open.specs.Filled.{most_of, capped};
 ghost use Rattle.sound_open.specs.Open.{sound_if_open};
 
-use arrayvec::ArrayVec;
 use rules::{Address, Entry, Place};
 
 // The largest number that n octets can make of those from index at on, eight at most.
@@ -84,9 +83,11 @@ fn open_sound(registry: &[Entry; 8], timer: u32, clock: u32, p: &Place) -> bool
 }
 
 // What is seen of the open places: their digests, one after the other, and whether each is sound.
-#[derive(Drop)]
+// As it was: an array and how much of it counts, since an ArrayVec can't be Copy, and this type is.
+#[derive(Clone, Copy)]
 pub struct Seen {
-    pub digests: ArrayVec<u64, 16>,
+    pub digests: [u64; 16],
+    pub open: usize,
     pub sound: bool,
 }
 
@@ -113,15 +114,21 @@ fn digest_of(p: &Place) -> u64
 // The open places in one go.
 pub fn look_over(places: &[Place; 16], registry: &[Entry; 8], timer: u32, clock: u32) -> Seen
     ensures sound_value { result.sound ≡ every (sound_if_open registry.now timer clock) places.now }
-    ensures digests { result.digests.items ≡ map digest (those is_open places.now) }
+    ensures digests { (result.open ≤ 16) × (take result.open result.digests ≡ map digest (those is_open places.now)) }
 {
-    let mut digests = ArrayVec::new();
+    let mut digests = [0; 16];
     let mut sound = true;
+    let mut open = 0;
     for p in places {
         if p.mark == 1 {
-            digests.push(digest_of(p));
+            digests[open] = digest_of(p);
             sound &= open_sound(registry, timer, clock, p);
+            open += 1;
         }
     }
-    Seen { digests, sound }
+    Seen {
+        digests,
+        open,
+        sound,
+    }
 }

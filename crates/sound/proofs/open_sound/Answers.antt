@@ -10,7 +10,7 @@ pub returns-then-all_differ : goal.returns-then-all_differ
 unfolding open_part
 returns-then-all_differ c =
     let seen = c.look_over-seen.ensures in
-    let told = c.all_differ.ensures ∙ ap (every_two is_other) (c.as_slice.ensures.value ∙ seen.digests) in
+    let told = c.all_differ.ensures ∙ ap (every_two is_other) seen.digests.1 in
     let apart = told-all c.args.t.now.places (sym told ∙ c.if-all_differ.true) in
     seen.sound_value ∙ sym (rw apart (and-true _))
 
