@@ -67,18 +67,26 @@ fn empty_table(entries: [Entry; 8], timer: u32, clock: u32) -> Table
     }
 }
 
+// The answer with that table. Made here whether refused or not, it goes to its caller at once, and is not copied.
+fn answer(entries: [Entry; 8], timer: u32, clock: u32, refusal: u8) -> Opened
+    ensures { result ≡ record { table = empty_table entries timer clock; refusal = refusal } }
+{
+    Opened {
+        table: empty_table(entries, timer, clock),
+        refusal,
+    }
+}
+
 // The unopened table, all zero, and why.
 // As it was: a refused for each answer: the answers of the calls differ in all but the number.
 fn refused(refusal: Refusal) -> Opened
     ensures { result ≡ unopened_by (number_of refusal) }
 {
-    Opened {
-        table: empty_table([no_entry(); 8], 0, 0),
-        refusal: u8::from(refusal),
-    }
+    answer([no_entry(); 8], 0, 0, u8::from(refusal))
 }
 
-// The registry that octets list, as a table has it, where T is in range.
+// The registry that octets list, as a table has it, where T is in range. Not inlined: else each entry's fields are stored in the answer by themselves, and who reads the table next waits for them.
+#[inline(never)]
 fn listed(registry: &[u8], timer: u32) -> Result<[Entry; 8], Refusal>
     ensures first { number_if result ≡ first (opening_checks registry.now timer) }
     ensures entries { IfOk result (λ es. (es ≡ registry_with (entries_of registry.now)) × (length (entries_of registry.now) ≤ 8)) }
@@ -108,10 +116,7 @@ pub fn opening(m: &mut [u64; rules::SUMMARY], registry: &[u8], timer: u32, clock
 {
     summary::empty(m);
     match listed(registry, timer) {
-        Ok(entries) => Opened {
-            table: empty_table(entries, timer, clock),
-            refusal: 0,
-        },
+        Ok(entries) => answer(entries, timer, clock, 0),
         Err(refusal) => refused(refusal),
     }
 }

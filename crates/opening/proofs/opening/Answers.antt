@@ -13,10 +13,10 @@ returns-in-Ok c =
     let a = c.args in
     let es = entries_of a.registry.now in
     let made = c.in-Ok.ensures.entries in
-    let table : c.empty_table.result ≡ empty_table es a.timer a.clock = c.empty_table.ensures ∙ rw made.0 (table-padded es a.timer a.clock made.1) in
+    let table : empty_table c.in-Ok.entries a.timer a.clock ≡ empty_table es a.timer a.clock = rw made.0 (table-padded es a.timer a.clock made.1) in
     let sharp : Sharp (opening_checks a.registry.now a.timer) = ((λ z. omega arith), ((λ z. omega arith), tt)) in
     record {
-      answered = rw table (sym (judged-none (opening_checks a.registry.now a.timer) unopened_by _ sharp (sym c.in-Ok.ensures.first)));
+      answered = c.answer.ensures ∙ rw table (sym (judged-none (opening_checks a.registry.now a.timer) unopened_by _ sharp (sym c.in-Ok.ensures.first)));
       summed = c.empty.ensures;
     }
 
