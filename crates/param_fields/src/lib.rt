@@ -70,11 +70,11 @@ impl Parameter<'_> {
     pub fn last_field(&self, at: usize) -> Result<(u8, usize), Fault>
         ensures { result ≡ last_field self.now.octets.now at }
     {
-        let x = self.octet(at)?;
-        if x < 128 {
+        let y = self.octet(at)?;
+        if y < 128 {
             return Err(fault(Refusal::OctetGoesOn, at));
         }
-        Ok((x, at + 1))
+        Ok((y, at + 1))
     }
 
     #[tactic(auto, using(crate::proofs::Chain::steps))]

@@ -53,7 +53,7 @@ fn record_of(l: &[u8]) -> Record
 }
 
 // A digit in hex, a capital letter from ten on.
-// As it was: the kit's hex writes small letters, and what the programs print stays.
+// As it was: the kit's hex writes small letters where it needs no heap, and what the programs print stays.
 fn hex_digit(x: u8) -> u8
     requires { x ≤ 15 }
     ensures { result ≡ hex_digit x }
@@ -75,7 +75,7 @@ fn put_pair(w: &mut Writer<'_>, x: u8)
 }
 
 // Octets in hex.
-// As it was: the kit's hex writes small letters, and listing of rules has capitals.
+// As it was: the kit's hex writes small letters where it needs no heap, and listing of rules has capitals.
 fn put_hex(w: &mut Writer<'_>, octets: &[u8])
     requires { (w.old.at ≤ 60000) × (length octets.now ≤ 20) }
     ensures wrote { Writes w.old (hex_of octets.now) w.new }
